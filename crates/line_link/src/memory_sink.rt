@@ -1,0 +1,76 @@
+ghost use Rattle.std.specs.Prelude.{◌≡◌, ◌<◌, [], Some};
+ghost use Rattle.outside_faults.specs.Told.{no_side};
+ghost use Rattle.line_link.specs.Memory.{Content};
+
+use crate::sink::Sink;
+use outside_faults::{Failed, FailingCalls, FaultCount};
+use std::alloc::Global;
+use std::marker::Model;
+
+/// Bytes that are kept in memory, written in pieces of a stated size, with the calls that are to fail.
+#[derive(Debug, Drop)]
+pub struct MemorySink {
+    bytes: Vec<u8>,
+    piece: usize,
+    failing: FailingCalls,
+    faults: FaultCount,
+}
+
+impl Model for MemorySink {
+    ghost use Rattle.std.specs.Prelude.{ℕ, ◌<◌, ◌^◌};
+    ghost use Rattle.line_link.specs.Memory.{Content};
+
+    ghost Value = { Content };
+
+    ghost view = { λ s. record { bytes = s.bytes.items; faults = s.faults } };
+
+    ghost invariant = { λ s. (0 < s.piece) × (s.faults < 2 ^ 64) };
+}
+
+impl MemorySink {
+    /// Nothing is written yet. A write takes at most `piece` bytes.
+    pub fn new(alloc: Global, piece: usize, failing: FailingCalls) -> MemorySink
+        requires { 0 < piece }
+        ensures { result ≡ record { bytes = []; faults = 0 } }
+    {
+        MemorySink {
+            bytes: Vec::new(alloc),
+            piece,
+            failing,
+            faults: FaultCount::new(),
+        }
+    }
+
+    /// The bytes written so far.
+    pub fn as_slice(&self) -> &[u8]
+        ensures { result.now ≡ self.now.bytes }
+    {
+        self.bytes.as_slice()
+    }
+
+    /// How often a write has failed.
+    pub fn faults(&self) -> u64
+        ensures { result ≡ self.now.faults }
+    {
+        self.faults.get()
+    }
+}
+
+impl Sink for MemorySink {
+    ghost held = { λ s. Some s.bytes };
+
+    ghost write_faults = { λ s. s.faults };
+
+    ghost kept_by_write = { λ _. no_side };
+
+    fn write(&mut self, bytes: &[u8]) -> Result<usize, Failed> {
+        if self.failing.next_fails() {
+            return Err(self.faults.raise());
+        }
+        let n = bytes.len().min(self.piece);
+        match self.bytes.extend_from_slice(&bytes[..n]) {
+            Ok(()) => Ok(n),
+            Err(_) => Err(self.faults.raise()),
+        }
+    }
+}
