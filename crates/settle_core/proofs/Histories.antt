@@ -1,0 +1,46 @@
+-- What one act more does to a history.
+use Rattle.std.proofs.Common.{◌≡◌, ℕ, ◌+◌, ◌<◌, ◌≤◌, List, [], ◌∷◌, ◌++◌, length, take, get_or, Option, Some, None, refl, sym, ◌∙◌, ap, subst, inl, inr, arith, length-append}
+use Rattle.std.specs.Prelude.{slice_get, sum_by}
+use Rattle.std.proofs.lemmas.Bool.{cases_lt}
+use Rattle.std.proofs.lemmas.List.{get_or_append_left, take-append-le}
+use Rattle.std.proofs.lemmas.List.Sums.{sum_by_push}
+use Rattle.std.proofs.lemmas.Option.{slice_get_within, slice_get-get_or}
+use Rattle.std.proofs.Math.Seq.{get_or-append_seam, take-append_seam}
+use Rattle.settle_core.specs.declared.command_words.act.Act.{Act}
+use Rattle.settle_core.specs.Bounds.{Bounds}
+use Rattle.settle_core.specs.Legal.{IsAccepted, IsLegal}
+use Rattle.settle_core.specs.Postings.{vault, deposit_of}
+
+-- the value in a Some
+some_value : {X : Type 0} (x y : X) → Some x ≡ Some y → x ≡ y
+some_value x y e = cc
+
+-- an element that is there before one more comes
+before_last : {X : Type 0} (xs : List X) (last x : X) (place : ℕ) → place < length xs → slice_get (xs ++ last ∷ []) place ≡ Some x → slice_get xs place ≡ Some x
+before_last xs last x place inside at =
+    let longer : place < length (xs ++ last ∷ []) = simp length-append (omega arith) in
+    slice_get-get_or xs place x inside ∙ (ap Some (sym (get_or_append_left xs (last ∷ []) x place inside)) ∙ (sym (slice_get-get_or (xs ++ last ∷ []) place x longer) ∙ at))
+
+-- the element that came last
+at_last : {X : Type 0} (xs : List X) (last x : X) (place : ℕ) → place ≡ length xs → slice_get (xs ++ last ∷ []) place ≡ Some x → last ≡ x
+at_last xs last x place end at =
+    let longer : place < length (xs ++ last ∷ []) = simp length-append (omega arith) in
+    let seam : get_or (xs ++ last ∷ []) place x ≡ last = rw end (get_or-append_seam xs last [] x) in
+    some_value last x (ap Some (sym seam) ∙ (sym (slice_get-get_or (xs ++ last ∷ []) place x longer) ∙ at))
+
+-- an accepted act keeps a history legal
+pub IsLegal-more : (limits : Bounds) (history : List Act) (act : Act) → IsLegal limits history → IsAccepted limits history act → IsLegal limits (history ++ act ∷ [])
+IsLegal-more limits history act legal accepted place other at =
+    elim (cases_lt place (length history)) [
+      | inl inside ↦ rw (take-append-le place history (act ∷ []) (omega arith)) (legal place other (before_last history act other place inside at))
+      | inr past ↦
+          let within : place < length (history ++ act ∷ []) = slice_get_within (history ++ act ∷ []) place other at in
+          let end : place ≡ length history = omega (arith, length-append history (act ∷ [])) in
+          let taken : take place (history ++ act ∷ []) ≡ history = rw end (take-append_seam history (act ∷ [])) in
+          let P : List Act → Type 0 = λ acts. IsAccepted limits acts other in
+          subst P (sym taken) (subst (IsAccepted limits history) (at_last history act other place end at) accepted)
+    ]
+
+-- an act more pays its deposit into the vault
+pub vault-more : (history : List Act) (act : Act) → vault (history ++ act ∷ []) ≡ vault history + deposit_of act.command
+vault-more history act = sum_by_push (λ (a : Act). deposit_of a.command) history act

@@ -1,0 +1,5 @@
+mod Cash
+mod Histories
+mod KeptLemmas
+mod Lowest
+mod Verdicts

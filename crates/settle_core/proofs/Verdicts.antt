@@ -1,0 +1,47 @@
+-- What follows from a verdict.
+use Rattle.std.proofs.Common.{◌≡◌, ℕ, ◌+◌, ◌<◌, ◌≤◌, List, [], ◌∷◌, length, Option, Some, None, refl, sym, ◌∙◌, ap, arith, zero, suc, Bool, true, false}
+use Rattle.std.specs.Prelude.{slice_get, nat_lt, nat_le, ◌&&◌}
+use Rattle.std.proofs.lemmas.Bool.Decides.{nat_tests}
+use Rattle.condition_sets.specs.declared.amount.TheConstants.{MAX_AMOUNT}
+use Rattle.settle_core.specs.declared.command_words.command.Command.{Command}
+use Rattle.settle_core.specs.declared.command_words.command.Command.TheVariants.{Deposit, Vault}
+use Rattle.settle_core.specs.declared.command_words.refusal.Refusal.{Refusal}
+use Rattle.settle_core.specs.declared.command_words.refusal.Refusal.TheVariants.{NotAllowed, VaultLimit, HistoryFull, Memory}
+use Rattle.settle_core.specs.Command.{makes_act}
+use Rattle.settle_core.specs.Postings.{vault, deposit_of}
+use Rattle.settle_core.specs.Verdict.{Question, verdict, where_, first_some, refusals, is_above_vault, vault_limit, history_full}
+
+-- where nothing is there, each is none
+first_some-none : {X : Type 0} (os : List (Option X)) (place : ℕ) (o : Option X) → first_some os ≡ None → slice_get os place ≡ Some o → o ≡ None
+first_some-none [] place o none at = cc
+first_some-none (Some x ∷ os) place o none at = cc
+first_some-none (None ∷ os) zero o none at = cc
+first_some-none (None ∷ os) (suc place) o none at = first_some-none os place o none at
+
+-- a condition whose refusal isn't there doesn't hold
+where_-none : (holds : Bool) (refusal : Refusal) → where_ holds refusal ≡ None → holds ≡ false
+where_-none true refusal none = cc
+where_-none false refusal none = refl
+
+and_right : (a b : Bool) → a ≡ true → (a && b) ≡ false → b ≡ false
+and_right true b first both = both
+and_right false b first both = cc
+
+-- an accepted command that makes an act finds the history within its limit
+pub accepted-within : (q : Question) → verdict q ≡ None → makes_act q.command ≡ true → length q.history < q.limits.history
+unfolding verdict
+accepted-within q none acts =
+    let full : history_full q ≡ None = first_some-none (refusals q) 2 (history_full q) none refl in
+    let room : nat_le q.limits.history (length q.history) ≡ false = and_right (makes_act q.command) (nat_le q.limits.history (length q.history)) acts (where_-none _ HistoryFull full) in
+    grind (arith, nat_tests, room)
+
+deposit-within : (held : ℕ) (command : Command) → makes_act command ≡ true → is_above_vault held command ≡ false → held + deposit_of command ≤ MAX_AMOUNT
+deposit-within held (Deposit to amount) acts below = grind (arith, nat_tests, below)
+deposit-within held Vault acts below = cc
+
+-- an accepted command that makes an act leaves the vault within its limit
+pub accepted-vault : (q : Question) → verdict q ≡ None → makes_act q.command ≡ true → vault q.history + deposit_of q.command ≤ MAX_AMOUNT
+unfolding verdict
+accepted-vault q none acts =
+    let limit : vault_limit q ≡ None = first_some-none (refusals q) 1 (vault_limit q) none refl in
+    deposit-within (vault q.history) q.command acts (where_-none _ (VaultLimit (vault q.history)) limit)

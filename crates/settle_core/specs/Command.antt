@@ -1,0 +1,23 @@
+-- What a command is by itself, before any history.
+use Rattle.std.specs.Prelude.{ℕ, ◌^◌, ◌&&◌, Bool, true, false, nat_lt, nat_le}
+use Rattle.condition_sets.specs.declared.amount.TheConstants.{MAX_AMOUNT}
+use Rattle.settle_core.specs.declared.command_words.command.Command.{Command}
+use Rattle.settle_core.specs.declared.command_words.command.Command.TheVariants.{Deposit, Vault}
+
+-- whether the command becomes an act of the history where it is accepted; the others are readings
+abbrev pub makes_act : Command → Bool
+makes_act (Deposit to amount) = true
+makes_act Vault = false
+
+-- an account is a number of 16 bits
+abbrev pub is_account : ℕ → Bool
+is_account n = nat_lt n (2 ^ 16)
+
+-- an amount that a command names is from 1 to 10^15
+abbrev pub is_amount : ℕ → Bool
+is_amount n = nat_le 1 n && nat_le n MAX_AMOUNT
+
+-- whether each member of the command lies in its range
+abbrev pub in_ranges : Command → Bool
+in_ranges (Deposit to amount) = is_account to && is_amount amount
+in_ranges Vault = true

@@ -1,0 +1,15 @@
+-- What an exchange keeps true of its parts.
+use Rattle.std.specs.Prelude.{◌≡◌, ℕ, ◌≤◌, List, length}
+use Rattle.condition_sets.specs.declared.amount.TheConstants.{MAX_AMOUNT}
+use Rattle.settle_core.specs.declared.limits.TheConstants.{MAX_HISTORY}
+use Rattle.settle_core.specs.declared.command_words.act.Act.{Act}
+use Rattle.settle_core.specs.Bounds.{Bounds}
+use Rattle.settle_core.specs.Legal.{IsLegal}
+use Rattle.settle_core.specs.Postings.{vault}
+
+-- the history is legal and within its limit, and the running total is what the history gives
+pub record IsKept (limits : Bounds) (held : ℕ) (history : List Act) : Type 0 where
+  pub legal : IsLegal limits history
+  pub within : length history ≤ limits.history
+  pub bounded : limits.history ≤ MAX_HISTORY
+  pub vault : held ≡ vault history

@@ -1,0 +1,13 @@
+pub mod Bounds
+pub mod Clock
+pub mod Command
+pub mod Holdings
+pub mod Kept
+pub mod Legal
+pub mod Limits
+pub mod Planned
+pub mod Postings
+pub mod Refusal
+pub mod Reply
+pub mod State
+pub mod Verdict

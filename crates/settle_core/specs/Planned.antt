@@ -1,0 +1,10 @@
+-- What contracts see of a plan.
+use Rattle.std.specs.Prelude.{Option}
+use Rattle.settle_core.specs.declared.command_words.act.Act.{Act}
+use Rattle.settle_core.specs.declared.command_words.reply.Reply.{Reply}
+
+-- the act to be, the copy of it until that is taken, and the reply
+pub record Planned : Type 0 where
+  pub act : Act
+  pub copy : Option Act
+  pub reply : Reply

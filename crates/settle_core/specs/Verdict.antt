@@ -1,0 +1,72 @@
+-- The verdict on a command: the refusal with the lowest number whose condition holds, or none.
+use Rattle.std.specs.Prelude.{◌==◌, ℕ, ◌+◌, ◌&&◌, Bool, false, not, nat_lt, nat_le, if◌then◌else◌, List, [], ◌∷◌, length, Option, Some, None, Contains, Result, Ok, Err, ◌≡◌, ⊤}
+use Rattle.condition_sets.specs.declared.amount.TheConstants.{MAX_AMOUNT}
+use Rattle.condition_sets.specs.declared.names.TheConstants.{OPERATOR, EXCHANGE}
+use Rattle.settle_core.specs.declared.command_words.command.Command.{Command}
+use Rattle.settle_core.specs.declared.command_words.command.Command.TheVariants.{Deposit, Vault}
+use Rattle.settle_core.specs.declared.command_words.act.Act.{Act}
+use Rattle.settle_core.specs.declared.command_words.refusal.Refusal.{Refusal}
+use Rattle.settle_core.specs.declared.command_words.refusal.Refusal.TheVariants.{NotAllowed, VaultLimit, HistoryFull, Memory}
+use Rattle.settle_core.specs.Bounds.{Bounds}
+use Rattle.settle_core.specs.Command.{makes_act}
+use Rattle.settle_core.specs.Postings.{vault}
+
+-- what is asked, by whom and when, and of which history within which limits
+pub record Question : Type 0 where
+  pub limits : Bounds
+  pub history : List Act
+  pub account : ℕ
+  pub command : Command
+  pub moment : ℕ
+
+-- an act as the question that it answered
+abbrev pub question_of : Bounds → List Act → Act → Question
+question_of limits history act =
+    record { limits = limits; history = history; account = act.account; command = act.command; moment = act.moment }
+
+-- the refusal, where its condition holds
+abbrev pub where_ : Bool → Refusal → Option Refusal
+where_ holds refusal = if holds then Some refusal else None
+
+-- who may ask a command: deposits are the operator's, and the exchange's own account takes no part
+abbrev pub may_ask : ℕ → Command → Bool
+may_ask account (Deposit to amount) = (account == OPERATOR) && not (to == EXCHANGE)
+may_ask account Vault = not (account == EXCHANGE)
+
+abbrev pub not_allowed : Question → Option Refusal
+not_allowed q = where_ (not (may_ask q.account q.command)) NotAllowed
+
+-- the vault would hold more than it may
+abbrev pub is_above_vault : ℕ → Command → Bool
+is_above_vault held (Deposit to amount) = nat_lt MAX_AMOUNT (held + amount)
+is_above_vault held Vault = false
+
+abbrev pub vault_limit : Question → Option Refusal
+vault_limit q = where_ (is_above_vault (vault q.history) q.command) (VaultLimit (vault q.history))
+
+abbrev pub history_full : Question → Option Refusal
+history_full q = where_ (makes_act q.command && nat_le q.limits.history (length q.history)) HistoryFull
+
+-- every refusal whose condition holds, in the order of their numbers
+abbrev pub refusals : Question → List (Option Refusal)
+refusals q = not_allowed q ∷ vault_limit q ∷ history_full q ∷ []
+
+-- the condition of the refusal holds
+abbrev pub Applies : Question → Refusal → Type 0
+Applies q refusal = Contains (refusals q) (Some refusal)
+
+-- the first that is there
+abbrev pub first_some : {X : Type 0} → List (Option X) → Option X
+first_some [] = None
+first_some (None ∷ rest) = first_some rest
+first_some (Some x ∷ rest) = Some x
+
+-- the refusal with the lowest number whose condition holds; none where the command is accepted
+unfoldable pub verdict : Question → Option Refusal
+verdict q = first_some (refusals q)
+
+-- A call answers by the verdict: it succeeds only where that is none, and refuses by it alone, want of memory aside.
+abbrev pub AnsweredBy : {X : Type 0} → Option Refusal → Result X Refusal → Type 0
+AnsweredBy given (Ok x) = given ≡ None
+AnsweredBy given (Err Memory) = ⊤
+AnsweredBy given (Err refusal) = given ≡ Some refusal

@@ -1,0 +1,54 @@
+ghost use Rattle.std.specs.Prelude.{◌≡◌, IfOk};
+
+use condition_sets::{AccountId, MAX_AMOUNT, NoMemory};
+use std::alloc::Global;
+
+/// What a client asks, with the members of its request.
+#[derive(Debug, Drop)]
+pub enum Command {
+    /// Pays `amount` collateral units into the vault, as cash of the account `to`.
+    Deposit { to: AccountId, amount: u64 },
+    /// Asks what the vault holds.
+    Vault,
+}
+
+impl Command {
+    ghost use Rattle.settle_core.specs.Command.{makes_act, in_ranges};
+
+    /// Whether the command becomes an act of the history where it is accepted; the others are readings.
+    pub fn makes_act(&self) -> bool
+        ensures { result ≡ makes_act self.now }
+    {
+        match self {
+            Command::Deposit { .. } => true,
+            Command::Vault => false,
+        }
+    }
+
+    /// Whether each member lies in its range: an amount from 1 to [`MAX_AMOUNT`].
+    pub fn in_ranges(&self) -> bool
+        ensures { result ≡ in_ranges self.now }
+    {
+        match self {
+            Command::Deposit { to, amount } => {
+                // Any account is in its range, as its type says.
+                let _number = to.get();
+                *amount >= 1 && *amount <= MAX_AMOUNT
+            }
+            Command::Vault => true,
+        }
+    }
+
+    /// An equal command.
+    pub fn copy(&self, _alloc: Global) -> Result<Command, NoMemory>
+        ensures { IfOk result (λ copy. copy ≡ self.now) }
+    {
+        match self {
+            Command::Deposit { to, amount } => Ok(Command::Deposit {
+                to: *to,
+                amount: *amount,
+            }),
+            Command::Vault => Ok(Command::Vault),
+        }
+    }
+}

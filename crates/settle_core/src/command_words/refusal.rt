@@ -1,0 +1,50 @@
+ghost use Rattle.std.specs.Prelude.{◌≡◌};
+ghost use Rattle.settle_core.specs.declared.command_words.refusal.Refusal.TheVariants.{Memory};
+
+use condition_sets::NoMemory;
+use std::alloc::AllocError;
+
+/// Why an exchange refuses a command.
+#[derive(Clone, Copy, Debug, PartialEq, Eq)]
+pub enum Refusal {
+    /// The account may not ask this, or it names the exchange's own account.
+    NotAllowed,
+    /// The vault, which holds `vault` units, would come to hold more than the limit.
+    VaultLimit { vault: u64 },
+    /// The history has as many acts as its limit.
+    HistoryFull,
+    /// Memory was wanting. It may be answered at any time, and changes nothing.
+    Memory,
+}
+
+impl Refusal {
+    ghost use Rattle.settle_core.specs.Refusal.{code_of};
+
+    /// The refusal's number, which clients see.
+    pub fn code(&self) -> u8
+        ensures { result ≡ code_of self.now }
+    {
+        match self {
+            Refusal::NotAllowed => 5,
+            Refusal::VaultLimit { .. } => 32,
+            Refusal::HistoryFull => 35,
+            Refusal::Memory => 37,
+        }
+    }
+}
+
+impl From<NoMemory> for Refusal {
+    ghost from_gives = { λ _ refusal. refusal ≡ Memory };
+
+    fn from(_error: NoMemory) -> Refusal {
+        Refusal::Memory
+    }
+}
+
+impl From<AllocError> for Refusal {
+    ghost from_gives = { λ _ refusal. refusal ≡ Memory };
+
+    fn from(_error: AllocError) -> Refusal {
+        Refusal::Memory
+    }
+}

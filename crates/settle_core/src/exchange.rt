@@ -1,0 +1,226 @@
+ghost use Rattle.std.specs.Prelude.{◌≡◌, ℕ, ◌+◌, ◌<◌, ◌≤◌, [], ◌∷◌, ◌++◌, true, false, None, Some, OnOk, OnErr, IfOk};
+ghost use Rattle.std.specs.Result.{result_err};
+ghost use Rattle.condition_sets.specs.declared.amount.TheConstants.{MAX_AMOUNT};
+ghost use Rattle.settle_core.specs.Command.{makes_act, in_ranges};
+ghost use Rattle.settle_core.specs.Legal.{IsLegal};
+ghost use Rattle.settle_core.specs.Postings.{vault, deposit_of};
+ghost use Rattle.settle_core.specs.Reply.{act_of, accepted_reply, reply_to, IsSound};
+ghost use Rattle.settle_core.specs.State.{State, asked, IsSame, IsPlanFor};
+ghost use Rattle.settle_core.specs.Verdict.{verdict, AnsweredBy};
+
+use crate::command_words::{Act, Acts, Command, Refusal, Reply};
+use crate::ledger_book::Ledger;
+use crate::limits::Limits;
+use crate::plan::Plan;
+use condition_sets::{AccountId, EXCHANGE, ListOf, MAX_AMOUNT, NoMemory, OPERATOR};
+use std::alloc::Global;
+use std::marker::Model;
+
+/// An exchange: the history of its acts, and what it keeps of them so that the next answer is quick.
+///
+/// Contracts see its limits, its history and its room, the number of acts that it takes without memory.
+#[derive(Drop)]
+pub struct Exchange {
+    alloc: Global,
+    limits: Limits,
+    ledger: Ledger,
+    history: Vec<Act>,
+}
+
+impl Model for Exchange {
+    ghost use Rattle.std.specs.Prelude.{◌-◌, vec_len, vec_capacity};
+    ghost use Rattle.settle_core.specs.State.{State};
+
+    ghost Value = { State };
+
+    ghost use Rattle.settle_core.specs.Kept.{IsKept};
+
+    ghost view = { λ e. record { limits = e.limits; history = e.history.items; room = vec_capacity e.history - vec_len e.history } };
+
+    ghost invariant = { λ e. IsKept e.limits e.ledger.vault e.history.items };
+}
+
+impl Exchange {
+    /// The empty history.
+    pub fn new(alloc: Global, limits: Limits) -> Result<Exchange, NoMemory>
+        ensures limits { IfOk result (λ exchange. exchange.limits ≡ limits) }
+        ensures history { IfOk result (λ exchange. exchange.history ≡ []) }
+    {
+        // The limit of the history is within the longest one: what is told of lengths rests on it.
+        let _most = limits.history();
+        Ok(Exchange {
+            alloc,
+            limits,
+            ledger: Ledger::new(),
+            history: Vec::new(alloc),
+        })
+    }
+
+    /// Plans a command that makes an act, and takes the memory that the act will need. The history is as it was.
+    pub fn plan(&mut self, account: AccountId, command: &Command, now: u64) -> Result<Plan, Refusal>
+        requires act { makes_act command.now ≡ true }
+        requires ranges { in_ranges command.now ≡ true }
+
+        ensures verdict { AnsweredBy (verdict (asked self.old account command.now now)) result }
+        ensures act { IfOk result (λ plan. plan.act ≡ act_of (asked self.old account command.now now)) }
+        ensures copy { IfOk result (λ plan. plan.copy ≡ Some plan.act) }
+        ensures plan { IfOk result (λ plan. IsPlanFor self.new plan) }
+        ensures room { OnOk result (0 < self.new.room) }
+        ensures same { IsSame self.old self.new }
+    {
+        if let Some(refusal) = self.refusal_of(account, command, now) {
+            return Err(refusal);
+        }
+        let act = Act {
+            moment: now,
+            account,
+            command: command.copy(self.alloc)?,
+        };
+        let copy = act.copy(self.alloc)?;
+        self.history.reserve(1)?;
+        let reply = Reply::Done {
+            lsn: self.history.len() as u64,
+        };
+        Ok(Plan::new(act, copy, reply))
+    }
+
+    /// Makes the plan's act the last of the history, and answers the plan's reply. It takes no memory.
+    pub fn apply(&mut self, plan: Plan) -> Reply
+        requires plan { IsPlanFor self.old plan }
+        requires room { 0 < self.old.room }
+
+        ensures reply { result ≡ plan.reply }
+        ensures sound { IsSound result }
+        ensures history { self.new.history ≡ self.old.history ++ plan.act ∷ [] }
+        ensures limits { self.new.limits ≡ self.old.limits }
+        ensures room { self.new.room + 1 ≡ self.old.room }
+    {
+        let (act, reply) = plan.into_parts();
+        post(&mut self.ledger, &act.command);
+        self.history.push_reserved(act);
+        reply
+    }
+
+    /// Plans a command that makes an act and applies the plan. A refusal leaves the exchange as it was.
+    pub fn submit(
+        &mut self,
+        account: AccountId,
+        command: &Command,
+        now: u64,
+    ) -> Result<Reply, Refusal>
+        requires act { makes_act command.now ≡ true }
+        requires ranges { in_ranges command.now ≡ true }
+
+        ensures verdict { AnsweredBy (verdict (asked self.old account command.now now)) result }
+        ensures reply { IfOk result (λ reply. reply ≡ reply_to (asked self.old account command.now now)) }
+        ensures sound { IfOk result IsSound }
+        ensures history { OnOk result (self.new.history ≡ self.old.history ++ act_of (asked self.old account command.now now) ∷ []) }
+        ensures limits { self.new.limits ≡ self.old.limits }
+        ensures err { OnErr result (IsSame self.old self.new) }
+    {
+        let plan = self.plan(account, command, now)?;
+        Ok(self.apply(plan))
+    }
+
+    /// Answers a reading, at any moment alike. It takes no memory.
+    #[tactic(auto, unfolding(crate::specs::Verdict::verdict))]
+    pub fn read(&self, account: AccountId, command: &Command) -> Result<Reply, Refusal>
+        requires reading { makes_act command.now ≡ false }
+
+        ensures ok { IfOk result (λ reply. reply ≡ accepted_reply self.now.history command.now) }
+        ensures verdict { (now : ℕ) → result_err result ≡ verdict (asked self.now account command.now now) }
+        ensures sound { IfOk result IsSound }
+    {
+        match command {
+            Command::Deposit { .. } => unreachable!(),
+            Command::Vault => {
+                if let Some(refusal) = self.refusal_of_vault(account, 0) {
+                    return Err(refusal);
+                }
+                Ok(Reply::Vaulted {
+                    rests: self.history.len() as u64,
+                    vault: self.ledger.vault(),
+                })
+            }
+        }
+    }
+
+    /// The acts so far, the oldest first. Each was accepted over those before it.
+    pub fn history(&self) -> &[Act]
+        ensures value { result.now ≡ self.now.history }
+        ensures legal { IsLegal self.now.limits result.now }
+    {
+        self.history.as_slice()
+    }
+
+    /// The ledger of the history.
+    pub fn ledger(&self) -> &Ledger
+        ensures { result.now.vault ≡ vault self.now.history }
+    {
+        &self.ledger
+    }
+
+    /// The history by value. It takes no memory.
+    pub fn end(self) -> Acts
+        ensures value { result ≡ self.history }
+        ensures legal { IsLegal self.limits result }
+    {
+        ListOf::of(self.history)
+    }
+
+    /// The refusal of a command, the one with the lowest number first.
+    fn refusal_of(&self, account: AccountId, command: &Command, now: u64) -> Option<Refusal>
+        ensures { result ≡ verdict (asked self.now account command.now now) }
+    {
+        match command {
+            Command::Deposit { to, amount } => {
+                self.refusal_of_deposit(account, *to, *amount, now)
+            }
+            Command::Vault => self.refusal_of_vault(account, now),
+        }
+    }
+
+    #[tactic(auto, unfolding(crate::specs::Verdict::verdict))]
+    fn refusal_of_deposit(
+        &self,
+        account: AccountId,
+        to: AccountId,
+        amount: u64,
+        now: u64,
+    ) -> Option<Refusal>
+        ensures { result ≡ verdict (asked self.now account (Command.Deposit to amount) now) }
+    {
+        if account.get() != OPERATOR || to.get() == EXCHANGE {
+            return Some(Refusal::NotAllowed);
+        }
+        let vault = self.ledger.vault();
+        if amount > MAX_AMOUNT - vault {
+            return Some(Refusal::VaultLimit { vault });
+        }
+        if self.history.len() >= self.limits.history() as usize {
+            return Some(Refusal::HistoryFull);
+        }
+        None
+    }
+
+    #[tactic(auto, unfolding(crate::specs::Verdict::verdict))]
+    fn refusal_of_vault(&self, account: AccountId, now: u64) -> Option<Refusal>
+        ensures { result ≡ verdict (asked self.now account Command.Vault now) }
+    {
+        if account.get() == EXCHANGE {
+            return Some(Refusal::NotAllowed);
+        }
+        None
+    }
+}
+
+/// Pays what a command pays.
+fn post(ledger: &mut Ledger, command: &Command)
+    requires { ledger.old.vault + deposit_of command.now ≤ MAX_AMOUNT }
+    ensures { ledger.new.vault ≡ ledger.old.vault + deposit_of command.now }
+{
+    match command {
+        Command::Deposit { to: _, amount } => ledger.pay_in(*amount),
+        Command::Vault => {}
+    }
+}

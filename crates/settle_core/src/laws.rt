@@ -1,0 +1,20 @@
+//! Laws of the rules: sentences about every history and every command, each proved once.
+
+ghost use Rattle.std.specs.Prelude.{◌≡◌, ℕ, ◌≤◌, List, Option, Some, None, Contains};
+ghost use Rattle.settle_core.specs.declared.command_words.act.Act.{Act};
+ghost use Rattle.settle_core.specs.declared.command_words.refusal.Refusal.{Refusal};
+ghost use Rattle.settle_core.specs.Postings.{root, supply, vault};
+ghost use Rattle.settle_core.specs.Refusal.{code_of};
+ghost use Rattle.settle_core.specs.Verdict.{Question, Applies, refusals, verdict};
+
+/// The verdict is the refusal with the lowest number whose condition holds, and there is none where no condition holds.
+pub fn lowest_refusal()
+    ensures applies { (q : Question) (refusal : Refusal) → verdict q ≡ Some refusal → Applies q refusal }
+    ensures lowest { (q : Question) (refusal other : Refusal) → verdict q ≡ Some refusal → Applies q other → code_of refusal ≤ code_of other }
+    ensures none { (q : Question) (refusal : Refusal) → verdict q ≡ None → Applies q refusal → ⊥ }
+{}
+
+/// The vault holds all the cash of all accounts, and nothing else.
+pub fn cash_is_the_vault()
+    ensures { (history : List Act) → supply history root ≡ vault history }
+{}

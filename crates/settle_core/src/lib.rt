@@ -1,0 +1,22 @@
+//! The exchange as a value: what a command is, what it is answered, and the history that it leaves.
+//!
+//! `specs/` has the rules: [`Exchange`] is seen as its limits, its history and its room, and each of its calls
+//! promises the verdict, the reply and the history that the rules give. The tables and running totals behind
+//! it are told by no clause.
+#![tactic(auto)]
+
+mod command_words;
+mod exchange;
+pub mod laws;
+mod ledger_book;
+mod limits;
+mod plan;
+
+pub use command_words::{Act, Acts, Clock, Command, LineFault, ListClock, Refusal, Reply};
+pub use exchange::Exchange;
+pub use ledger_book::Ledger;
+pub use limits::{Limits, MAX_HISTORY};
+pub use plan::Plan;
+
+#[cfg(test)]
+mod tests;

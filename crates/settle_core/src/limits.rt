@@ -1,0 +1,101 @@
+ghost use Rattle.std.specs.Prelude.{◌≡◌, ◌↔◌, ◌≤◌, IsSome, IfSome};
+
+use std::marker::Model;
+
+/// The most acts that a history has.
+pub const MAX_HISTORY: u32 = 1_000_000;
+
+/// The most conditions that are prepared.
+const STANDARD_CONDITIONS: u16 = 4_096;
+
+/// The most events that are made.
+const STANDARD_EVENTS: u16 = 512;
+
+/// The most open orders of one market.
+const STANDARD_ORDERS: u32 = 10_000;
+
+/// The most balances that aren't 0.
+const STANDARD_ENTRIES: u32 = 4_000_000;
+
+/// How many conditions, events, open orders of a market, nonzero balances and acts an exchange holds at the most.
+#[derive(Clone, Copy, Debug, PartialEq, Eq)]
+pub struct Limits {
+    conditions: u16,
+    events: u16,
+    orders: u32,
+    entries: u32,
+    history: u32,
+}
+
+impl Model for Limits {
+    ghost use Rattle.settle_core.specs.Bounds.{Bounds, AreLimits};
+
+    ghost Value = { Bounds };
+
+    ghost use Rattle.settle_core.specs.Limits.{bounds_of};
+
+    ghost view = { bounds_of };
+
+    ghost invariant = { λ l. AreLimits (bounds_of l) };
+
+    ghost inverse = { λ b. record { conditions = b.conditions; events = b.events; orders = b.orders; entries = b.entries; history = b.history } };
+}
+
+impl Limits {
+    ghost use Rattle.settle_core.specs.Bounds.{standard, AreLimits};
+
+    /// The limits that the program has.
+    pub fn standard() -> Limits
+        ensures { result ≡ standard }
+    {
+        Limits {
+            conditions: STANDARD_CONDITIONS,
+            events: STANDARD_EVENTS,
+            orders: STANDARD_ORDERS,
+            entries: STANDARD_ENTRIES,
+            history: MAX_HISTORY,
+        }
+    }
+
+    /// Limits for tests: `None` exactly where one is 0 or above the standard one.
+    pub fn small(
+        conditions: u16,
+        events: u16,
+        orders: u32,
+        entries: u32,
+        history: u32,
+    ) -> Option<Limits>
+        ensures valid { IsSome result ↔ AreLimits (record { conditions = conditions; events = events; orders = orders; entries = entries; history = history }) }
+        ensures value { IfSome result (λ limits. limits ≡ record { conditions = conditions; events = events; orders = orders; entries = entries; history = history }) }
+    {
+        let fits = conditions >= 1
+            && conditions <= STANDARD_CONDITIONS
+            && events >= 1
+            && events <= STANDARD_EVENTS
+            && orders >= 1
+            && orders <= STANDARD_ORDERS
+            && entries >= 1
+            && entries <= STANDARD_ENTRIES
+            && history >= 1
+            && history <= MAX_HISTORY;
+        if fits {
+            Some(Limits {
+                conditions,
+                events,
+                orders,
+                entries,
+                history,
+            })
+        } else {
+            None
+        }
+    }
+
+    /// The most acts of a history.
+    pub fn history(&self) -> u32
+        ensures value { result ≡ self.now.history }
+        ensures within { result ≤ MAX_HISTORY }
+    {
+        self.history
+    }
+}

@@ -1,0 +1,60 @@
+ghost use Rattle.std.specs.Prelude.{◌≡◌, None, Some, IsSome};
+
+use crate::command_words::{Act, Reply};
+use std::marker::Model;
+
+/// An accepted command that is ready to become the next act, with the reply to it.
+#[derive(Debug, Drop)]
+pub struct Plan {
+    act: Act,
+    copy: Option<Act>,
+    reply: Reply,
+}
+
+impl Model for Plan {
+    ghost use Rattle.settle_core.specs.Planned.{Planned};
+
+    ghost Value = { Planned };
+
+    ghost view = { λ p. record { act = p.act; copy = p.copy; reply = p.reply } };
+}
+
+impl Plan {
+    /// The plan of an act, with a copy of it and the reply.
+    pub(crate) fn new(act: Act, copy: Act, reply: Reply) -> Plan
+        ensures { result ≡ record { act = act; copy = Some copy; reply = reply } }
+    {
+        Plan {
+            act,
+            copy: Some(copy),
+            reply,
+        }
+    }
+
+    /// The act that the command becomes.
+    pub fn act(&self) -> &Act
+        ensures { result.now ≡ self.now.act }
+    {
+        &self.act
+    }
+
+    /// Hands out the copy of the act. It takes no memory.
+    pub fn take_copy(&mut self) -> Act
+        requires { IsSome self.old.copy }
+        ensures copy { self.old.copy ≡ Some result }
+        ensures taken { self.new ≡ record self.old { copy = None } }
+    {
+        match self.copy.take() {
+            Some(act) => act,
+            None => unreachable!(),
+        }
+    }
+
+    /// The act and the reply.
+    pub(crate) fn into_parts(self) -> (Act, Reply)
+        ensures act { result.0 ≡ self.act }
+        ensures reply { result.1 ≡ self.reply }
+    {
+        (self.act, self.reply)
+    }
+}

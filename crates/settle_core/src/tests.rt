@@ -1,0 +1,206 @@
+use super::*;
+use condition_sets::{AccountId, NoMemory};
+use std::alloc::Global;
+use std::process::Abort;
+use std::test::Fail;
+
+/// The most that the vault may hold.
+const FULL_VAULT: u64 = 1_000_000_000_000_000;
+
+/// An account and its command, what the exchange answers, and how many acts and collateral units it has then.
+type Step = (u16, Command, &'static str, usize, u64);
+
+fn deposit(to: u16, amount: u64) -> Command {
+    Command::Deposit {
+        to: AccountId(to),
+        amount,
+    }
+}
+
+/// Takes the steps on an exchange that begins empty, each at moment 7.
+fn play(rt: &(impl Abort + AllocGlobal), limits: Limits, steps: &[Step]) -> Result<Exchange, Fail> {
+    let mut exchange = Exchange::new(rt.alloc(), limits)?;
+    for (account, command, expected, acts, vault) in steps {
+        assert!(rt; command.in_ranges());
+        let answer = if command.makes_act() {
+            exchange.submit(AccountId(*account), command, 7)
+        } else {
+            exchange.read(AccountId(*account), command)
+        };
+        let text = format!(in rt.alloc(); "{answer:?}")?;
+        assert_eq!(rt;
+            text.as_str(),
+            *expected,
+            "{command:?} of account {account}"
+        );
+        assert_eq!(rt; exchange.history().len(), *acts);
+        assert_eq!(rt; exchange.ledger().vault(), *vault);
+    }
+    Ok(exchange)
+}
+
+/// Whether the act is the operator's deposit to `to` at this moment.
+fn is_deposit(act: &Act, moment: u64, to: u16, amount: u64) -> bool {
+    let same_command = match &act.command {
+        Command::Deposit {
+            to: given_to,
+            amount: given,
+        } => given_to.get() == to && *given == amount,
+        Command::Vault => false,
+    };
+    act.moment == moment && act.account.get() == 0 && same_command
+}
+
+fn tell(clock: &mut impl Clock) -> u64 {
+    clock.now()
+}
+
+#[test]
+fn deposits_and_readings(rt: HostRuntime) -> Result<(), Fail> {
+    let steps = [
+        (0, deposit(2, 100), "Ok(Done { lsn: 0 })", 1, 100),
+        (
+            2,
+            Command::Vault,
+            "Ok(Vaulted { rests: 1, vault: 100 })",
+            1,
+            100,
+        ),
+        (2, deposit(2, 100), "Err(NotAllowed)", 1, 100),
+        (0, deposit(1, 100), "Err(NotAllowed)", 1, 100),
+        (1, Command::Vault, "Err(NotAllowed)", 1, 100),
+    ];
+    let exchange = play(&rt, Limits::standard(), &steps)?;
+    let acts = exchange.history();
+    assert_eq!(rt; acts.len(), 1);
+    assert!(rt; is_deposit(&acts[0], 7, 2, 100));
+    Ok(())
+}
+
+#[test]
+fn full_vault(rt: HostRuntime) -> Result<(), Fail> {
+    let steps = [
+        (
+            0,
+            deposit(2, FULL_VAULT),
+            "Ok(Done { lsn: 0 })",
+            1,
+            FULL_VAULT,
+        ),
+        (
+            0,
+            deposit(2, 1),
+            "Err(VaultLimit { vault: 1000000000000000 })",
+            1,
+            FULL_VAULT,
+        ),
+        (2, deposit(2, 1), "Err(NotAllowed)", 1, FULL_VAULT),
+    ];
+    play(&rt, Limits::standard(), &steps)?;
+    Ok(())
+}
+
+#[test]
+fn full_history(rt: HostRuntime) -> Result<(), Fail> {
+    for (last, full) in [
+        (1, "Err(HistoryFull)"),
+        (
+            FULL_VAULT - 3,
+            "Err(VaultLimit { vault: 1000000000000000 })",
+        ),
+    ] {
+        let vault = last + 3;
+        let steps = [
+            (0, deposit(2, 1), "Ok(Done { lsn: 0 })", 1, 1),
+            (0, deposit(2, 1), "Ok(Done { lsn: 1 })", 2, 2),
+            (0, deposit(2, 1), "Ok(Done { lsn: 2 })", 3, 3),
+            (0, deposit(2, last), "Ok(Done { lsn: 3 })", 4, vault),
+            (0, deposit(2, 1), full, 4, vault),
+        ];
+        let limits = Limits::small(1, 1, 1, 2, 4).ok_or("no limits")?;
+        play(&rt, limits, &steps)?;
+    }
+    Ok(())
+}
+
+#[test]
+fn limits(rt: HostRuntime) {
+    for (conditions, events, orders, entries, history, valid) in [
+        (1, 1, 1, 1, 1, true),
+        (4_096, 512, 10_000, 4_000_000, 1_000_000, true),
+        (0, 1, 1, 1, 1, false),
+        (1, 0, 1, 1, 1, false),
+        (1, 1, 0, 1, 1, false),
+        (1, 1, 1, 0, 1, false),
+        (1, 1, 1, 1, 0, false),
+        (4_097, 1, 1, 1, 1, false),
+        (1, 513, 1, 1, 1, false),
+        (1, 1, 10_001, 1, 1, false),
+        (1, 1, 1, 4_000_001, 1, false),
+        (1, 1, 1, 1, 1_000_001, false),
+    ] {
+        assert_eq!(rt;
+            Limits::small(conditions, events, orders, entries, history).is_some(),
+            valid,
+            "{conditions} {events} {orders} {entries} {history}"
+        );
+    }
+    let standard = Limits::small(4_096, 512, 10_000, 4_000_000, 1_000_000);
+    assert_eq!(rt; standard, Some(Limits::standard()));
+    assert_eq!(rt; Limits::standard().history(), 1_000_000);
+}
+
+#[test]
+fn plans_and_the_end(rt: HostRuntime) -> Result<(), Fail> {
+    let alloc = rt.alloc();
+    let mut exchange = Exchange::new(alloc, Limits::standard())?;
+    let mut clock = ListClock::new(7);
+    let first = Command::Deposit {
+        to: AccountId(2),
+        amount: 100,
+    };
+    let second = Command::Deposit {
+        to: AccountId(3),
+        amount: 50,
+    };
+
+    let mut plan = exchange.plan(AccountId(0), &first, tell(&mut clock))?;
+    assert!(rt; is_deposit(plan.act(), 7, 2, 100));
+    assert_eq!(rt; exchange.history().len(), 0);
+    let copy = plan.take_copy();
+    assert!(rt; is_deposit(&copy, 7, 2, 100));
+    assert!(rt; is_deposit(&copy.copy(alloc)?, 7, 2, 100));
+    let reply = exchange.apply(plan);
+    assert!(rt; matches!(reply, Reply::Done { lsn: 0 }));
+
+    let reply = exchange.submit(AccountId(0), &second.copy(alloc)?, tell(&mut clock))?;
+    assert!(rt; matches!(reply, Reply::Done { lsn: 1 }));
+    let acts = exchange.end().into_vec();
+    assert_eq!(rt; acts.len(), 2);
+    assert!(rt; is_deposit(&acts[0], 7, 2, 100));
+    assert!(rt; is_deposit(&acts[1], 8, 3, 50));
+    Ok(())
+}
+
+#[test]
+fn codes_and_rests(rt: HostRuntime) {
+    for (refusal, code) in [
+        (Refusal::NotAllowed, 5),
+        (Refusal::VaultLimit { vault: 9 }, 32),
+        (Refusal::HistoryFull, 35),
+        (Refusal::Memory, 37),
+    ] {
+        assert_eq!(rt; refusal.code(), code, "{refusal:?}");
+    }
+    assert_eq!(rt; Refusal::from(NoMemory), Refusal::Memory);
+
+    let refusal = Refusal::NotAllowed;
+    let fault = LineFault::NotJson;
+    let rests = [
+        Reply::Done { lsn: 4 }.rests(),
+        Reply::Vaulted { rests: 6, vault: 9 }.rests(),
+        Reply::Refused { refusal, rests: 7 }.rests(),
+        Reply::Bad { fault }.rests(),
+    ];
+    assert_eq!(rt; rests, [5, 6, 7, 0]);
+}
