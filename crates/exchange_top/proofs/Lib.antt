@@ -1,0 +1,3 @@
+mod Members
+mod Requests
+mod Serving

@@ -1,0 +1,74 @@
+//! One line in, one reply out, over the exchange.
+
+ghost use Rattle.std.specs.Prelude.{◌≡◌, length, true};
+ghost use Rattle.line_link.specs.Heard.{heard};
+ghost use Rattle.line_link.specs.Lines.{kept};
+ghost use Rattle.settle_core.specs.Command.{in_ranges};
+ghost use Rattle.settle_core.specs.Reply.{Answered};
+ghost use Rattle.settle_core.specs.State.{asked};
+ghost use Rattle.exchange_top.specs.Talk.{AnsweredLine, refused_reply};
+
+use crate::wire_json::{Request, read_line};
+use line_link::Line;
+use settle_core::{Exchange, LineFault, Refusal, Reply};
+use std::alloc::Global;
+
+/// Answers a line that was told, whose bytes are `text`.
+pub(crate) fn answer_line(
+    alloc: Global,
+    exchange: &mut Exchange,
+    line: Line,
+    text: &[u8],
+    now: u64,
+) -> Reply
+    ensures answered { AnsweredLine exchange.old.limits exchange.old.history (heard line text.now) now result exchange.new.history }
+    ensures limits { exchange.new.limits ≡ exchange.old.limits }
+{
+    match line {
+        Line::TooLong => Reply::Bad {
+            fault: LineFault::TooLong,
+        },
+        Line::Whole => answer_text(alloc, exchange, text, now),
+    }
+}
+
+/// Answers a line that was told whole.
+fn answer_text(alloc: Global, exchange: &mut Exchange, text: &[u8], now: u64) -> Reply
+    ensures answered { AnsweredLine exchange.old.limits exchange.old.history (kept text.now) now result exchange.new.history }
+    ensures limits { exchange.new.limits ≡ exchange.old.limits }
+{
+    match read_line(alloc, text) {
+        Ok(request) => answer_request(exchange, &request, now),
+        Err(fault) => Reply::Bad { fault },
+    }
+}
+
+/// Answers a request.
+fn answer_request(exchange: &mut Exchange, request: &Request, now: u64) -> Reply
+    requires { in_ranges request.now.command ≡ true }
+    ensures answered { Answered (asked exchange.old request.now.account request.now.command now) result exchange.new.history }
+    ensures limits { exchange.new.limits ≡ exchange.old.limits }
+{
+    if request.command.makes_act() {
+        match exchange.submit(request.account, &request.command, now) {
+            Ok(reply) => reply,
+            Err(refusal) => refused(exchange, refusal),
+        }
+    } else {
+        match exchange.read(request.account, &request.command) {
+            Ok(reply) => reply,
+            Err(refusal) => refused(exchange, refusal),
+        }
+    }
+}
+
+/// The reply to a refused command. It rests on the whole history, but for want of memory, which rests on nothing.
+fn refused(exchange: &Exchange, refusal: Refusal) -> Reply
+    ensures { result ≡ refused_reply refusal (length exchange.now.history) }
+{
+    let rests = match refusal {
+        Refusal::Memory => 0,
+        _ => exchange.history().len() as u64,
+    };
+    Reply::Refused { refusal, rests }
+}

@@ -1,0 +1,67 @@
+ghost use Rattle.std.specs.Prelude.{◌≡◌, ◌+◌, ◌≤◌, [], ◌++◌, length};
+ghost use Rattle.exchange_top.specs.ReplyText.{text_of, refusal_text, fault_text};
+
+use crate::wire_json::text::Text;
+use settle_core::{LineFault, Refusal, Reply};
+
+/// Makes the text of a reply: one JSON object without spaces, with its members in ascending order, and a newline.
+/// It takes no memory.
+pub fn write_reply(reply: &Reply, into: &mut Text)
+    ensures { into.new ≡ text_of reply.now }
+{
+    into.clear();
+    match reply {
+        Reply::Done { lsn } => {
+            into.push(b"{\"lsn\":");
+            into.push_number(*lsn);
+            into.push(b"}\n");
+        }
+        Reply::Vaulted { rests, vault } => {
+            into.push(b"{\"rests\":");
+            into.push_number(*rests);
+            into.push(b",\"vault\":");
+            into.push_number(*vault);
+            into.push(b"}\n");
+        }
+        Reply::Refused { refusal, rests } => write_refusal(*refusal, *rests, into),
+        Reply::Bad { fault } => write_fault(*fault, into),
+    }
+}
+
+fn write_refusal(refusal: Refusal, rests: u64, into: &mut Text)
+    requires { into.old ≡ [] }
+    ensures { into.new ≡ refusal_text refusal rests }
+{
+    match refusal {
+        Refusal::NotAllowed => {
+            into.push(b"{\"code\":5,\"error\":\"NotAllowed\",\"rests\":");
+            into.push_number(rests);
+            into.push(b"}\n");
+        }
+        Refusal::VaultLimit { vault } => {
+            into.push(b"{\"code\":32,\"error\":\"VaultLimit\",\"rests\":");
+            into.push_number(rests);
+            into.push(b",\"vault\":");
+            into.push_number(vault);
+            into.push(b"}\n");
+        }
+        Refusal::HistoryFull => {
+            into.push(b"{\"code\":35,\"error\":\"HistoryFull\",\"rests\":");
+            into.push_number(rests);
+            into.push(b"}\n");
+        }
+        Refusal::Memory => into.push(b"{\"code\":37,\"error\":\"Memory\"}\n"),
+    }
+}
+
+fn write_fault(fault: LineFault, into: &mut Text)
+    requires { into.old ≡ [] }
+    ensures { into.new ≡ fault_text fault }
+{
+    into.push(match fault {
+        LineFault::TooLong => b"{\"code\":1,\"error\":\"TooLong\"}\n".as_slice(),
+        LineFault::NotJson => b"{\"code\":2,\"error\":\"NotJson\"}\n".as_slice(),
+        LineFault::NotCommand => b"{\"code\":3,\"error\":\"NotCommand\"}\n".as_slice(),
+        LineFault::Memory => b"{\"code\":37,\"error\":\"Memory\"}\n".as_slice(),
+    });
+}
