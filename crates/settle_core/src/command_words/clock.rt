@@ -41,7 +41,12 @@ impl ListClock {
 impl Clock for ListClock {
     ghost may_have_told = { λ c moments. Counts c.first moments c.next };
 
-    fn now(&mut self) -> u64 {
+    fn now(&mut self) -> u64
+        ensures told { (moments : List ℕ) → Counts self.old.first moments self.old.next
+            → Counts self.new.first (moments ++ result ∷ []) self.new.next }
+        ensures value { result ≡ self.old.next }
+        ensures first { self.new.first ≡ self.old.first }
+    {
         let now = self.next;
         self.next = now.saturating_add(1);
         now

@@ -2,8 +2,8 @@ use Rattle.std.proofs.Common.{sym, subst}
 use Rattle.settle_core.specs.Clock.{Ticking, Counts, Counts-more}
 use Rattle.settle_core.proofs.command_words.clock.ListClockClock.now.Goals as goal
 
-pub returns : goal.returns
-returns c =
+pub returns-clause-told : goal.returns-clause-told
+returns-clause-told c =
     λ moments told.
     let counted = subst (λ (t : Ticking). Counts t.first moments t.next) (sym c.self.view_is) told in
     rw c.saturating_add-self-inside.ensures (Counts-more c.self.inside.first moments c.self.inside.next counted)
