@@ -1,5 +1,5 @@
 -- What a line is, by what reading its JSON gave.
-use Rattle.std.proofs.Common.{◌≡◌, ℕ, List, Option, Some, None, Ok, Err, Bool, true, false, refl, sym, ◌∙◌, ap, subst, inl, inr}
+use Rattle.std.proofs.Common.{◌≡◌, ℕ, List, Option, Some, None, Err, Bool, true, false, refl, sym, ◌∙◌, ap, subst, inl, inr}
 use Rattle.std.specs.Prelude.{IsUtf8, ◌&&◌}
 use Rattle.std.specs.Str.{is_utf8}
 use Rattle.std.proofs.lemmas.Bool.{cases_Bool, cond-true, cond-false}
@@ -7,13 +7,17 @@ use Rattle.std.proofs.lemmas.Str.{IsUtf8-from_is_utf8, is_utf8-from_IsUtf8}
 use Rattle.serde_json.specs.Data.{Data}
 use Rattle.serde_json.specs.Read.{read}
 use Rattle.settle_core.specs.declared.command_words.reply.LineFault.TheVariants.{NotJson}
-use Rattle.settle_core.specs.Command.{is_account, in_ranges}
+use Rattle.settle_core.specs.Command.{is_account, in_ranges, is_built}
 use Rattle.exchange_top.specs.declared.wire_json.request.Request.{Request}
 use Rattle.exchange_top.specs.Request.{request, request_in, ranged, or_no_command, or_no_json}
 
 and_right : (a b : Bool) → (a && b) ≡ true → b ≡ true
 and_right true b both = both
 and_right false b both = cc
+
+and_left : (a b : Bool) → (a && b) ≡ true → a ≡ true
+and_left true b both = refl
+and_left false b both = cc
 
 -- a line that is JSON is by what its value is
 pub request-read : (line : List ℕ) (d : Data) → IsUtf8 line → read line ≡ Some d → request line ≡ or_no_command (ranged (request_in d))
@@ -29,11 +33,17 @@ request-no_json line refused =
       | inr no_utf8 ↦ rw no_utf8 refl
     ]
 
--- a request that is kept has a command in its ranges
-pub ranged-command : (o : Option Request) (r : Request) → ranged o ≡ Some r → in_ranges r.command ≡ true
+-- a request that is kept has a command in its ranges that is carried out
+pub ranged-command : (o : Option Request) (r : Request) → ranged o ≡ Some r → (in_ranges r.command && is_built r.command) ≡ true
 ranged-command None r kept = cc
 ranged-command (Some q) r kept =
-    elim (cases_Bool (is_account q.account && in_ranges q.command)) [
-      | inl fits ↦ let same : Some q ≡ Some r = sym (cond-true _ _ None fits) ∙ kept in let equal : q ≡ r = cc in subst (λ (x : Request). in_ranges x.command ≡ true) equal (and_right (is_account q.account) (in_ranges q.command) fits)
+    elim (cases_Bool (is_account q.account && (in_ranges q.command && is_built q.command))) [
+      | inl fits ↦ let same : Some q ≡ Some r = sym (cond-true _ _ None fits) ∙ kept in let equal : q ≡ r = cc in subst (λ (x : Request). (in_ranges x.command && is_built x.command) ≡ true) equal (and_right (is_account q.account) (in_ranges q.command && is_built q.command) fits)
       | inr unfit ↦ let none : None ≡ Some r = sym (cond-false _ _ None unfit) ∙ kept in cc
     ]
+
+pub ranged-ranges : (o : Option Request) (r : Request) → ranged o ≡ Some r → in_ranges r.command ≡ true
+ranged-ranges o r kept = and_left (in_ranges r.command) (is_built r.command) (ranged-command o r kept)
+
+pub ranged-built : (o : Option Request) (r : Request) → ranged o ≡ Some r → is_built r.command ≡ true
+ranged-built o r kept = and_right (in_ranges r.command) (is_built r.command) (ranged-command o r kept)

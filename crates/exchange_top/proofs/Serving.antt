@@ -1,20 +1,17 @@
 -- A run so far, how it goes on by a line, and how it ends.
-use Rattle.std.proofs.Common.{◌≡◌, ℕ, ◌+◌, ◌<◌, ◌≤◌, List, [], ◌∷◌, ◌++◌, length, take, drop, Option, Some, None, refl, sym, ◌∙◌, ap, subst, arith, append_assoc, length-append}
+use Rattle.std.proofs.Common.{◌≡◌, ℕ, ◌+◌, List, [], ◌∷◌, ◌++◌, length, take, drop, Option, Some, None, refl, sym, ◌∙◌, ap, subst, arith, append_assoc, length-append}
 use Rattle.std.specs.Prelude.{map}
-use Rattle.std.specs.List.{flat_map}
 use Rattle.std.specs.Io.KnownBytes.{Appends}
-use Rattle.std.proofs.lemmas.List.{append-nil, map-append, length-map}
+use Rattle.std.proofs.lemmas.List.{append-nil, map-append}
 use Rattle.std.proofs.lemmas.Grind.{flat_map-append}
-use Rattle.std.proofs.Math.Seq.{take-append_seam, take-length, drop-append_seam, drop-length}
+use Rattle.std.proofs.Math.Seq.{take-append_seam, take-length, drop-append_seam}
 use Rattle.outside_faults.specs.Told.{IfTold, IfTold-trans, IfTold-weaker, IfTold-same}
 use Rattle.line_link.specs.Lines.{Heard, heard_lines, AppendsFront}
 use Rattle.line_link.specs.Reading.{Reading}
 use Rattle.line_link.specs.declared.status.Status.{Status}
-use Rattle.line_link.specs.declared.status.Status.TheVariants.{Done, ReadFault, WriteFault, InputLimit}
+use Rattle.line_link.specs.declared.status.Status.TheVariants.{Done, WriteFault}
 use Rattle.settle_core.specs.declared.command_words.act.Act.{Act}
-use Rattle.settle_core.specs.declared.command_words.reply.Reply.{Reply}
 use Rattle.settle_core.specs.Bounds.{Bounds, standard}
-use Rattle.exchange_top.specs.declared.ended.Ended.{Ended}
 use Rattle.exchange_top.specs.declared.program.TheConstants.{MAX_INPUT}
 use Rattle.exchange_top.specs.ReplyText.{text_of}
 use Rattle.exchange_top.specs.Run.{Ran, IsRead, AreFirst, IsWritten, written, texts}

@@ -3,16 +3,22 @@ use Rattle.std.specs.Prelude.{◌==◌, ℕ, if◌then◌else◌, List, codes, O
 use Rattle.std.specs.Str.{bytes_eq}
 use Rattle.serde_json.specs.Data.{Data}
 use Rattle.settle_core.specs.declared.command_words.command.Command.{Command}
-use Rattle.settle_core.specs.declared.command_words.command.Command.TheVariants.{Deposit, Vault}
+use Rattle.settle_core.specs.declared.command_words.command.Command.TheVariants.{Deposit, Prepare, Vault}
 use Rattle.exchange_top.specs.Json.{number_at, member_count}
 
 -- {"do":"deposit","by":account,"to":account,"amount":amount}
 abbrev pub deposit_in : Data → Option Command
 deposit_in d = option_and_then (λ to. option_map (λ amount. Deposit to amount) (number_at (codes "amount") d)) (number_at (codes "to") d)
 
+-- {"do":"prepare","by":account,"oracle":account,"question":number,"slots":number}
+abbrev pub prepare_in : Data → Option Command
+prepare_in d =
+    option_and_then (λ oracle. option_and_then (λ question. option_map (λ slots. Prepare oracle question slots) (number_at (codes "slots") d)) (number_at (codes "question") d)) (number_at (codes "oracle") d)
+
 -- the command of this name, where the object has just its members and each is of its kind
 abbrev pub command_in : List ℕ → Data → Option Command
 command_in name d =
     if bytes_eq name (codes "deposit") then (if member_count d == 4 then deposit_in d else None)
+    else (if bytes_eq name (codes "prepare") then (if member_count d == 5 then prepare_in d else None)
     else (if bytes_eq name (codes "vault") then (if member_count d == 2 then Some Vault else None)
-    else None)
+    else None))

@@ -1,13 +1,13 @@
 -- What is kept of numbers that may be out of their ranges.
-use Rattle.std.specs.Prelude.{ℕ, if◌then◌else◌, Option, Some, None}
+use Rattle.std.specs.Prelude.{ℕ, ◌&&◌, if◌then◌else◌, Option, Some, None}
 use Rattle.settle_core.specs.declared.command_words.command.Command.{Command}
-use Rattle.settle_core.specs.Command.{is_account, in_ranges}
+use Rattle.settle_core.specs.Command.{is_account, in_ranges, is_built}
 
 -- an account's number
 abbrev pub ranged_account : ℕ → Option ℕ
 ranged_account number = if is_account number then Some number else None
 
--- a command whose members are in their ranges
+-- a command whose members are in their ranges, of a form that is carried out so far
 abbrev pub ranged_command : Option Command → Option Command
 ranged_command None = None
-ranged_command (Some command) = if in_ranges command then Some command else None
+ranged_command (Some command) = if in_ranges command && is_built command then Some command else None

@@ -1,12 +1,12 @@
 -- The request that a line is.
-use Rattle.std.specs.Prelude.{◌≡◌, ℕ, ◌&&◌, Bool, if◌then◌else◌, List, codes, Option, Some, None, option_and_then, option_map, Result, Ok, Err, ⊤}
+use Rattle.std.specs.Prelude.{◌≡◌, ℕ, ◌&&◌, if◌then◌else◌, List, codes, Option, Some, None, option_and_then, option_map, Result, Ok, Err, ⊤}
 use Rattle.std.specs.Str.{is_utf8}
 use Rattle.serde_json.specs.Data.{Data}
 use Rattle.serde_json.specs.Read.{read}
 use Rattle.settle_core.specs.declared.command_words.command.Command.{Command}
 use Rattle.settle_core.specs.declared.command_words.reply.LineFault.{LineFault}
-use Rattle.settle_core.specs.declared.command_words.reply.LineFault.TheVariants.{TooLong, NotJson, NotCommand, Memory}
-use Rattle.settle_core.specs.Command.{is_account, in_ranges}
+use Rattle.settle_core.specs.declared.command_words.reply.LineFault.TheVariants.{NotJson, NotCommand, Memory}
+use Rattle.settle_core.specs.Command.{is_account, in_ranges, is_built}
 use Rattle.exchange_top.specs.CommandText.{command_in}
 use Rattle.exchange_top.specs.Json.{number_at, text_at}
 use Rattle.exchange_top.specs.declared.wire_json.request.Request.{Request}
@@ -20,10 +20,10 @@ abbrev pub request_in : Data → Option Request
 request_in d =
     option_and_then (λ name. option_and_then (λ account. option_map (request_by account) (command_in name d)) (number_at (codes "by") d)) (text_at (codes "do") d)
 
--- a request whose numbers are all in their ranges
+-- a request whose numbers are all in their ranges, of a form that is carried out so far
 abbrev pub ranged : Option Request → Option Request
 ranged None = None
-ranged (Some r) = if is_account r.account && in_ranges r.command then Some r else None
+ranged (Some r) = if is_account r.account && (in_ranges r.command && is_built r.command) then Some r else None
 
 abbrev pub or_no_command : Option Request → Result Request LineFault
 or_no_command None = Err NotCommand

@@ -3,7 +3,7 @@
 ghost use Rattle.std.specs.Prelude.{◌≡◌, length, true};
 ghost use Rattle.line_link.specs.Heard.{heard};
 ghost use Rattle.line_link.specs.Lines.{kept};
-ghost use Rattle.settle_core.specs.Command.{in_ranges};
+ghost use Rattle.settle_core.specs.Command.{in_ranges, is_built};
 ghost use Rattle.settle_core.specs.Reply.{Answered};
 ghost use Rattle.settle_core.specs.State.{asked};
 ghost use Rattle.exchange_top.specs.Talk.{AnsweredLine, refused_reply};
@@ -45,7 +45,8 @@ fn answer_text(alloc: Global, exchange: &mut Exchange, text: &[u8], now: u64) ->
 
 /// Answers a request.
 fn answer_request(exchange: &mut Exchange, request: &Request, now: u64) -> Reply
-    requires { in_ranges request.now.command ≡ true }
+    requires ranges { in_ranges request.now.command ≡ true }
+    requires built { is_built request.now.command ≡ true }
     ensures answered { Answered (asked exchange.old request.now.account request.now.command now) result exchange.new.history }
     ensures limits { exchange.new.limits ≡ exchange.old.limits }
 {

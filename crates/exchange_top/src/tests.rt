@@ -57,7 +57,7 @@ fn calm() -> Outside<'static> {
 
 #[test]
 fn answers_each_line(rt: HostRuntime) -> Result<(), Fail> {
-    let table: [(&[u8], &[u8]); 11] = [
+    let table: [(&[u8], &[u8]); 13] = [
         (b"", b""),
         (b"\n", b"{\"code\":2,\"error\":\"NotJson\"}\n"),
         (b"\xff\n", b"{\"code\":2,\"error\":\"NotJson\"}\n"),
@@ -66,6 +66,14 @@ fn answers_each_line(rt: HostRuntime) -> Result<(), Fail> {
         (b"{\"do\":\"vault\",\"by\":1,\"by\":2}\n", EMPTY_VAULT),
         (
             b"{\"do\":\"vault\",\"by\":2,\"x\":1}\n{\"do\":\"steal\",\"by\":2}\n[]\n",
+            b"{\"code\":3,\"error\":\"NotCommand\"}\n{\"code\":3,\"error\":\"NotCommand\"}\n{\"code\":3,\"error\":\"NotCommand\"}\n",
+        ),
+        (
+            b"{\"do\":\"prepare\",\"by\":2,\"oracle\":3,\"question\":7,\"slots\":2}\n{\"slots\":2,\"question\":7,\"oracle\":3,\"by\":4,\"do\":\"prepare\"}\n{\"do\":\"prepare\",\"by\":2,\"oracle\":3,\"question\":8,\"slots\":2}\n",
+            b"{\"condition\":0,\"lsn\":0}\n{\"code\":7,\"error\":\"AlreadyPrepared\",\"rests\":1}\n{\"condition\":1,\"lsn\":1}\n",
+        ),
+        (
+            b"{\"do\":\"prepare\",\"by\":2,\"oracle\":3,\"question\":7,\"slots\":3}\n{\"do\":\"prepare\",\"by\":2,\"oracle\":3,\"question\":7,\"slots\":258}\n{\"do\":\"prepare\",\"by\":2,\"oracle\":3,\"question\":1000000000000001,\"slots\":2}\n",
             b"{\"code\":3,\"error\":\"NotCommand\"}\n{\"code\":3,\"error\":\"NotCommand\"}\n{\"code\":3,\"error\":\"NotCommand\"}\n",
         ),
         (

@@ -1,6 +1,6 @@
 -- What one act more does to a history.
-use Rattle.std.proofs.Common.{◌≡◌, ℕ, ◌+◌, ◌<◌, ◌≤◌, List, [], ◌∷◌, ◌++◌, length, take, get_or, Option, Some, None, refl, sym, ◌∙◌, ap, subst, inl, inr, arith, length-append}
-use Rattle.std.specs.Prelude.{slice_get, sum_by}
+use Rattle.std.proofs.Common.{◌≡◌, ℕ, ◌+◌, ◌<◌, List, [], ◌∷◌, ◌++◌, length, take, get_or, Some, sym, ◌∙◌, ap, subst, inl, inr, arith, length-append}
+use Rattle.std.specs.Prelude.{slice_get}
 use Rattle.std.proofs.lemmas.Bool.{cases_lt}
 use Rattle.std.proofs.lemmas.List.{get_or_append_left, take-append-le}
 use Rattle.std.proofs.lemmas.List.Sums.{sum_by_push}
@@ -9,6 +9,7 @@ use Rattle.std.proofs.Math.Seq.{get_or-append_seam, take-append_seam}
 use Rattle.settle_core.specs.declared.command_words.act.Act.{Act}
 use Rattle.settle_core.specs.Bounds.{Bounds}
 use Rattle.settle_core.specs.Legal.{IsAccepted, IsLegal}
+use Rattle.settle_core.specs.Book.{book-more, conditions, prepared_after, Book}
 use Rattle.settle_core.specs.Postings.{vault, deposit_of}
 
 -- the value in a Some
@@ -44,3 +45,7 @@ IsLegal-more limits history act legal accepted place other at =
 -- an act more pays its deposit into the vault
 pub vault-more : (history : List Act) (act : Act) → vault (history ++ act ∷ []) ≡ vault history + deposit_of act.command
 vault-more history act = sum_by_push (λ (a : Act). deposit_of a.command) history act
+
+-- an act more prepares its condition
+pub conditions-more : (history : List Act) (act : Act) → conditions (history ++ act ∷ []) ≡ prepared_after act.command (conditions history)
+conditions-more history act = ap (λ (b : Book). b.conditions) (book-more history act)

@@ -1,8 +1,8 @@
 -- The first refusal that is there has the lowest number.
-use Rattle.std.proofs.Common.{◌≡◌, ℕ, ◌<◌, ◌≤◌, ◌+◌, List, [], ◌∷◌, length, Option, Some, None, refl, sym, ◌∙◌, ap, subst, arith, zero, suc, Bool, true, false}
+use Rattle.std.proofs.Common.{◌≡◌, ℕ, ◌<◌, ◌≤◌, List, [], ◌∷◌, length, Option, Some, None, refl, subst, arith, zero, suc, Bool, true, false}
 use Rattle.std.specs.Prelude.{Contains, slice_index_or}
 use Rattle.settle_core.specs.declared.command_words.refusal.Refusal.{Refusal}
-use Rattle.settle_core.specs.declared.command_words.refusal.Refusal.TheVariants.{NotAllowed, VaultLimit, HistoryFull}
+use Rattle.settle_core.specs.declared.command_words.refusal.Refusal.TheVariants.{NotAllowed, AlreadyPrepared, TableFull, VaultLimit, HistoryFull}
 use Rattle.settle_core.specs.Postings.{vault}
 use Rattle.settle_core.specs.Refusal.{code_of}
 use Rattle.settle_core.specs.Verdict.{Question, where_, first_some, refusals}
@@ -28,10 +28,20 @@ refusals-rise q = (
   omega arith,
   where_-numbered _ NotAllowed,
   (
-    32,
+    7,
     omega arith,
-    where_-numbered _ (VaultLimit (vault q.history)),
-    (35, omega arith, where_-numbered _ HistoryFull, tt),
+    where_-numbered _ AlreadyPrepared,
+    (
+      8,
+      omega arith,
+      where_-numbered _ TableFull,
+      (
+        32,
+        omega arith,
+        where_-numbered _ (VaultLimit (vault q.history)),
+        (35, omega arith, where_-numbered _ HistoryFull, tt),
+      ),
+    ),
   ),
 )
 

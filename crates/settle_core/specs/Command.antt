@@ -1,12 +1,15 @@
 -- What a command is by itself, before any history.
-use Rattle.std.specs.Prelude.{ℕ, ◌^◌, ◌&&◌, Bool, true, false, nat_lt, nat_le}
+use Rattle.std.specs.Prelude.{◌==◌, ℕ, ◌^◌, ◌&&◌, Bool, true, false, nat_lt, nat_le}
 use Rattle.condition_sets.specs.declared.amount.TheConstants.{MAX_AMOUNT}
+use Rattle.condition_sets.specs.declared.slot_count.TheConstants.{MIN_SLOTS, MAX_SLOTS}
+use Rattle.settle_core.specs.declared.command_words.command.TheConstants.{MAX_QUESTION}
 use Rattle.settle_core.specs.declared.command_words.command.Command.{Command}
-use Rattle.settle_core.specs.declared.command_words.command.Command.TheVariants.{Deposit, Vault}
+use Rattle.settle_core.specs.declared.command_words.command.Command.TheVariants.{Deposit, Prepare, Vault}
 
 -- whether the command becomes an act of the history where it is accepted; the others are readings
 abbrev pub makes_act : Command → Bool
 makes_act (Deposit to amount) = true
+makes_act (Prepare oracle question slots) = true
 makes_act Vault = false
 
 -- an account is a number of 16 bits
@@ -20,4 +23,11 @@ is_amount n = nat_le 1 n && nat_le n MAX_AMOUNT
 -- whether each member of the command lies in its range
 abbrev pub in_ranges : Command → Bool
 in_ranges (Deposit to amount) = is_account to && is_amount amount
+in_ranges (Prepare oracle question slots) = is_account oracle && (nat_le question MAX_QUESTION && (nat_le MIN_SLOTS slots && nat_le slots MAX_SLOTS))
 in_ranges Vault = true
+
+-- whether the command has a form that is carried out so far: conditions of two slots
+abbrev pub is_built : Command → Bool
+is_built (Deposit to amount) = true
+is_built (Prepare oracle question slots) = slots == 2
+is_built Vault = true

@@ -2,13 +2,14 @@
 use Rattle.std.specs.Prelude.{◌≡◌, ℕ, true, List, take, slice_get, Some, None}
 use Rattle.settle_core.specs.declared.command_words.act.Act.{Act}
 use Rattle.settle_core.specs.Bounds.{Bounds}
-use Rattle.settle_core.specs.Command.{makes_act, in_ranges}
+use Rattle.settle_core.specs.Command.{makes_act, in_ranges, is_built}
 use Rattle.settle_core.specs.Verdict.{question_of, verdict}
 
--- the act's command makes an act, its members are in their ranges, and the verdict on it refuses nothing
+-- the act's command makes an act and is carried out so far, its members are in their ranges, and the verdict on it refuses nothing
 pub record IsAccepted (limits : Bounds) (history : List Act) (act : Act) : Type 0 where
   pub makes_act : makes_act act.command ≡ true
   pub in_ranges : in_ranges act.command ≡ true
+  pub is_built : is_built act.command ≡ true
   pub accepted : verdict (question_of limits history act) ≡ None
 
 -- each act was accepted, at its moment, over the acts before it

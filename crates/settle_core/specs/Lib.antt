@@ -1,3 +1,4 @@
+pub mod Book
 pub mod Bounds
 pub mod Clock
 pub mod Command
@@ -10,4 +11,5 @@ pub mod Postings
 pub mod Refusal
 pub mod Reply
 pub mod State
+pub mod Table
 pub mod Verdict

@@ -1,10 +1,12 @@
 -- The refusals by their numbers.
 use Rattle.std.specs.Prelude.{ℕ}
 use Rattle.settle_core.specs.declared.command_words.refusal.Refusal.{Refusal}
-use Rattle.settle_core.specs.declared.command_words.refusal.Refusal.TheVariants.{NotAllowed, VaultLimit, HistoryFull, Memory}
+use Rattle.settle_core.specs.declared.command_words.refusal.Refusal.TheVariants.{NotAllowed, AlreadyPrepared, TableFull, VaultLimit, HistoryFull, Memory}
 
 abbrev pub code_of : Refusal → ℕ
 code_of NotAllowed = 5
+code_of AlreadyPrepared = 7
+code_of TableFull = 8
 code_of (VaultLimit vault) = 32
 code_of HistoryFull = 35
 code_of Memory = 37

@@ -1,5 +1,5 @@
 -- What contracts see of an exchange.
-use Rattle.std.specs.Prelude.{◌≡◌, ℕ, ◌≤◌, List}
+use Rattle.std.specs.Prelude.{◌≡◌, ℕ, List}
 use Rattle.settle_core.specs.declared.command_words.command.Command.{Command}
 use Rattle.settle_core.specs.declared.command_words.act.Act.{Act}
 use Rattle.settle_core.specs.Bounds.{Bounds}

@@ -1,18 +1,23 @@
-ghost use Rattle.std.specs.Prelude.{◌≡◌, ℕ, ◌+◌, ◌<◌, ◌≤◌, [], ◌∷◌, ◌++◌, true, false, None, Some, OnOk, OnErr, IfOk};
+ghost use Rattle.std.specs.Prelude.{◌≡◌, ℕ, ◌+◌, ◌<◌, ◌≤◌, [], ◌∷◌, ◌++◌, true, false, None, Some, length, nat_le, OnOk, OnErr, IfOk};
 ghost use Rattle.std.specs.Result.{result_err};
 ghost use Rattle.condition_sets.specs.declared.amount.TheConstants.{MAX_AMOUNT};
-ghost use Rattle.settle_core.specs.Command.{makes_act, in_ranges};
+ghost use Rattle.condition_sets.specs.declared.slot_count.TheConstants.{MIN_SLOTS, MAX_SLOTS};
+ghost use Rattle.settle_core.specs.Command.{makes_act, in_ranges, is_built};
+ghost use Rattle.settle_core.specs.Book.{conditions, prepared_after};
 ghost use Rattle.settle_core.specs.Legal.{IsLegal};
 ghost use Rattle.settle_core.specs.Postings.{vault, deposit_of};
 ghost use Rattle.settle_core.specs.Reply.{act_of, accepted_reply, reply_to, IsSound};
 ghost use Rattle.settle_core.specs.State.{State, asked, IsSame, IsPlanFor};
-ghost use Rattle.settle_core.specs.Verdict.{verdict, AnsweredBy};
+ghost use Rattle.settle_core.specs.Verdict.{verdict, prepares_again, is_above_table, AnsweredBy};
 
 use crate::command_words::{Act, Acts, Command, Refusal, Reply};
+use crate::condition_table::Conditions;
 use crate::ledger_book::Ledger;
 use crate::limits::Limits;
 use crate::plan::Plan;
-use condition_sets::{AccountId, EXCHANGE, ListOf, MAX_AMOUNT, NoMemory, OPERATOR};
+use condition_sets::{
+    AccountId, ConditionId, EXCHANGE, ListOf, MAX_AMOUNT, NoMemory, OPERATOR, SlotCount,
+};
 use std::alloc::Global;
 use std::marker::Model;
 
@@ -23,21 +28,22 @@ use std::marker::Model;
 pub struct Exchange {
     alloc: Global,
     limits: Limits,
+    conditions: Conditions,
     ledger: Ledger,
     history: Vec<Act>,
 }
 
 impl Model for Exchange {
-    ghost use Rattle.std.specs.Prelude.{◌-◌, vec_len, vec_capacity};
+    ghost use Rattle.std.specs.Prelude.{◌-◌, min, vec_len, vec_capacity};
     ghost use Rattle.settle_core.specs.State.{State};
 
     ghost Value = { State };
 
     ghost use Rattle.settle_core.specs.Kept.{IsKept};
 
-    ghost view = { λ e. record { limits = e.limits; history = e.history.items; room = vec_capacity e.history - vec_len e.history } };
+    ghost view = { λ e. record { limits = e.limits; history = e.history.items; room = min (vec_capacity e.history - vec_len e.history) e.conditions.room } };
 
-    ghost invariant = { λ e. IsKept e.limits e.ledger.vault e.history.items };
+    ghost invariant = { λ e. IsKept e.limits e.conditions e.ledger.vault e.history.items };
 }
 
 impl Exchange {
@@ -51,6 +57,7 @@ impl Exchange {
         Ok(Exchange {
             alloc,
             limits,
+            conditions: Conditions::new(alloc, limits.conditions())?,
             ledger: Ledger::new(),
             history: Vec::new(alloc),
         })
@@ -60,6 +67,7 @@ impl Exchange {
     pub fn plan(&mut self, account: AccountId, command: &Command, now: u64) -> Result<Plan, Refusal>
         requires act { makes_act command.now ≡ true }
         requires ranges { in_ranges command.now ≡ true }
+        requires built { is_built command.now ≡ true }
 
         ensures verdict { AnsweredBy (verdict (asked self.old account command.now now)) result }
         ensures act { IfOk result (λ plan. plan.act ≡ act_of (asked self.old account command.now now)) }
@@ -78,9 +86,8 @@ impl Exchange {
         };
         let copy = act.copy(self.alloc)?;
         self.history.reserve(1)?;
-        let reply = Reply::Done {
-            lsn: self.history.len() as u64,
-        };
+        self.conditions.reserve(1)?;
+        let reply = self.accepted_reply(command);
         Ok(Plan::new(act, copy, reply))
     }
 
@@ -93,10 +100,10 @@ impl Exchange {
         ensures sound { IsSound result }
         ensures history { self.new.history ≡ self.old.history ++ plan.act ∷ [] }
         ensures limits { self.new.limits ≡ self.old.limits }
-        ensures room { self.new.room + 1 ≡ self.old.room }
+        ensures room { self.old.room ≤ self.new.room + 1 }
     {
         let (act, reply) = plan.into_parts();
-        post(&mut self.ledger, &act.command);
+        enter(&mut self.conditions, &mut self.ledger, &act.command);
         self.history.push_reserved(act);
         reply
     }
@@ -110,6 +117,7 @@ impl Exchange {
     ) -> Result<Reply, Refusal>
         requires act { makes_act command.now ≡ true }
         requires ranges { in_ranges command.now ≡ true }
+        requires built { is_built command.now ≡ true }
 
         ensures verdict { AnsweredBy (verdict (asked self.old account command.now now)) result }
         ensures reply { IfOk result (λ reply. reply ≡ reply_to (asked self.old account command.now now)) }
@@ -133,6 +141,7 @@ impl Exchange {
     {
         match command {
             Command::Deposit { .. } => unreachable!(),
+            Command::Prepare { .. } => unreachable!(),
             Command::Vault => {
                 if let Some(refusal) = self.refusal_of_vault(account, 0) {
                     return Err(refusal);
@@ -160,6 +169,13 @@ impl Exchange {
         &self.ledger
     }
 
+    /// The conditions that the history prepared.
+    pub fn conditions(&self) -> &Conditions
+        ensures { result.now.facts ≡ conditions self.now.history }
+    {
+        &self.conditions
+    }
+
     /// The history by value. It takes no memory.
     pub fn end(self) -> Acts
         ensures value { result ≡ self.history }
@@ -170,12 +186,18 @@ impl Exchange {
 
     /// The refusal of a command, the one with the lowest number first.
     fn refusal_of(&self, account: AccountId, command: &Command, now: u64) -> Option<Refusal>
+        requires { in_ranges command.now ≡ true }
         ensures { result ≡ verdict (asked self.now account command.now now) }
     {
         match command {
             Command::Deposit { to, amount } => {
                 self.refusal_of_deposit(account, *to, *amount, now)
             }
+            Command::Prepare {
+                oracle,
+                question,
+                slots,
+            } => self.refusal_of_prepare(account, *oracle, *question, *slots, now),
             Command::Vault => self.refusal_of_vault(account, now),
         }
     }
@@ -197,7 +219,38 @@ impl Exchange {
         if amount > MAX_AMOUNT - vault {
             return Some(Refusal::VaultLimit { vault });
         }
-        if self.history.len() >= self.limits.history() as usize {
+        if self.is_full() {
+            return Some(Refusal::HistoryFull);
+        }
+        None
+    }
+
+    #[tactic(auto, unfolding(crate::specs::Verdict::verdict))]
+    fn refusal_of_prepare(
+        &self,
+        account: AccountId,
+        oracle: AccountId,
+        question: u64,
+        slots: u8,
+        now: u64,
+    ) -> Option<Refusal>
+        requires at_least { MIN_SLOTS ≤ slots }
+        requires at_most { slots ≤ MAX_SLOTS }
+        ensures { result ≡ verdict (asked self.now account (Command.Prepare oracle question slots) now) }
+    {
+        if account.get() == EXCHANGE || oracle.get() == EXCHANGE {
+            return Some(Refusal::NotAllowed);
+        }
+        let Some(slots) = SlotCount::new(slots) else {
+            unreachable!()
+        };
+        if self.conditions.find(oracle, question, slots).is_some() {
+            return Some(Refusal::AlreadyPrepared);
+        }
+        if self.conditions.len() >= self.limits.conditions() {
+            return Some(Refusal::TableFull);
+        }
+        if self.is_full() {
             return Some(Refusal::HistoryFull);
         }
         None
@@ -212,15 +265,57 @@ impl Exchange {
         }
         None
     }
+
+    /// Whether the history has as many acts as its limit.
+    fn is_full(&self) -> bool
+        ensures { result ≡ nat_le self.now.limits.history (length self.now.history) }
+    {
+        self.history.len() >= self.limits.history() as usize
+    }
+
+    /// The reply to a command that is accepted.
+    fn accepted_reply(&self, command: &Command) -> Reply
+        requires act { makes_act command.now ≡ true }
+        requires fits { is_above_table self.now.limits.conditions (conditions self.now.history) command.now ≡ false }
+        ensures { result ≡ accepted_reply self.now.history command.now }
+    {
+        let lsn = self.history.len() as u64;
+        match command {
+            Command::Deposit { .. } => Reply::Done { lsn },
+            Command::Prepare { .. } => match ConditionId::new(self.conditions.len()) {
+                Some(condition) => Reply::Prepared { condition, lsn },
+                None => unreachable!(),
+            },
+            Command::Vault => unreachable!(),
+        }
+    }
 }
 
-/// Pays what a command pays.
-fn post(ledger: &mut Ledger, command: &Command)
-    requires { ledger.old.vault + deposit_of command.now ≤ MAX_AMOUNT }
-    ensures { ledger.new.vault ≡ ledger.old.vault + deposit_of command.now }
+/// Enters what an accepted command does: the condition that it prepares, and what it pays.
+fn enter(conditions: &mut Conditions, ledger: &mut Ledger, command: &Command)
+    requires vault { ledger.old.vault + deposit_of command.now ≤ MAX_AMOUNT }
+    requires ranges { in_ranges command.now ≡ true }
+    requires new { prepares_again conditions.old.facts command.now ≡ false }
+    requires within { is_above_table conditions.old.limit conditions.old.facts command.now ≡ false }
+    requires room { 0 < conditions.old.room }
+
+    ensures vault { ledger.new.vault ≡ ledger.old.vault + deposit_of command.now }
+    ensures conditions { conditions.new.facts ≡ prepared_after command.now conditions.old.facts }
+    ensures limit { conditions.new.limit ≡ conditions.old.limit }
+    ensures room { conditions.old.room ≤ conditions.new.room + 1 }
 {
     match command {
         Command::Deposit { to: _, amount } => ledger.pay_in(*amount),
+        Command::Prepare {
+            oracle,
+            question,
+            slots,
+        } => match SlotCount::new(*slots) {
+            Some(slots) => {
+                let _condition = conditions.prepare(*oracle, *question, slots);
+            }
+            None => unreachable!(),
+        },
         Command::Vault => {}
     }
 }

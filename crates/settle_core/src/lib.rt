@@ -6,6 +6,7 @@
 #![tactic(auto)]
 
 mod command_words;
+mod condition_table;
 mod exchange;
 pub mod laws;
 mod ledger_book;
@@ -13,6 +14,7 @@ mod limits;
 mod plan;
 
 pub use command_words::{Act, Acts, Clock, Command, LineFault, ListClock, Refusal, Reply};
+pub use condition_table::{Conditions, Facts};
 pub use exchange::Exchange;
 pub use ledger_book::Ledger;
 pub use limits::{Limits, MAX_HISTORY};

@@ -1,4 +1,5 @@
-ghost use Rattle.std.specs.Prelude.{◌≡◌, ◌↔◌, ◌≤◌, IsSome, IfSome};
+ghost use Rattle.std.specs.Prelude.{◌≡◌, ◌↔◌, ◌+◌, ◌≤◌, IsSome, IfSome};
+ghost use Rattle.condition_sets.specs.declared.names.TheConstants.{MAX_CONDITION};
 
 use std::marker::Model;
 
@@ -89,6 +90,14 @@ impl Limits {
         } else {
             None
         }
+    }
+
+    /// The most conditions that may be prepared.
+    pub fn conditions(&self) -> u16
+        ensures value { result ≡ self.now.conditions }
+        ensures within { result ≤ MAX_CONDITION + 1 }
+    {
+        self.conditions
     }
 
     /// The most acts of a history.

@@ -1,5 +1,5 @@
 use super::*;
-use condition_sets::{AccountId, NoMemory};
+use condition_sets::{AccountId, ConditionId, NoMemory};
 use std::alloc::Global;
 use std::process::Abort;
 use std::test::Fail;
@@ -17,11 +17,20 @@ fn deposit(to: u16, amount: u64) -> Command {
     }
 }
 
+fn prepare(oracle: u16, question: u64) -> Command {
+    Command::Prepare {
+        oracle: AccountId(oracle),
+        question,
+        slots: 2,
+    }
+}
+
 /// Takes the steps on an exchange that begins empty, each at moment 7.
 fn play(rt: &(impl Abort + AllocGlobal), limits: Limits, steps: &[Step]) -> Result<Exchange, Fail> {
     let mut exchange = Exchange::new(rt.alloc(), limits)?;
     for (account, command, expected, acts, vault) in steps {
         assert!(rt; command.in_ranges());
+        assert!(rt; command.is_built());
         let answer = if command.makes_act() {
             exchange.submit(AccountId(*account), command, 7)
         } else {
@@ -46,7 +55,7 @@ fn is_deposit(act: &Act, moment: u64, to: u16, amount: u64) -> bool {
             to: given_to,
             amount: given,
         } => given_to.get() == to && *given == amount,
-        Command::Vault => false,
+        Command::Prepare { .. } | Command::Vault => false,
     };
     act.moment == moment && act.account.get() == 0 && same_command
 }
@@ -74,6 +83,50 @@ fn deposits_and_readings(rt: HostRuntime) -> Result<(), Fail> {
     let acts = exchange.history();
     assert_eq!(rt; acts.len(), 1);
     assert!(rt; is_deposit(&acts[0], 7, 2, 100));
+    Ok(())
+}
+
+#[test]
+fn conditions(rt: HostRuntime) -> Result<(), Fail> {
+    let first = "Ok(Prepared { condition: ConditionId { number: 0 }, lsn: 0 })";
+    let second = "Ok(Prepared { condition: ConditionId { number: 1 }, lsn: 1 })";
+    let third = "Ok(Prepared { condition: ConditionId { number: 2 }, lsn: 2 })";
+    let steps = [
+        (2, prepare(3, 7), first, 1, 0),
+        (2, prepare(3, 7), "Err(AlreadyPrepared)", 1, 0),
+        (2, prepare(4, 7), second, 2, 0),
+        (2, prepare(3, 8), third, 3, 0),
+        (2, prepare(1, 9), "Err(NotAllowed)", 3, 0),
+        (1, prepare(3, 9), "Err(NotAllowed)", 3, 0),
+        (2, prepare(5, 5), "Err(TableFull)", 3, 0),
+        (2, prepare(3, 8), "Err(AlreadyPrepared)", 3, 0),
+    ];
+    let limits = Limits::small(3, 1, 1, 2, 3).ok_or("no limits")?;
+    let exchange = play(&rt, limits, &steps)?;
+    assert_eq!(rt; exchange.conditions().len(), 3);
+    for (number, question) in [(0, Some(7)), (2, Some(8)), (3, None)] {
+        let condition = ConditionId::new(number).ok_or("no condition")?;
+        let facts = exchange.conditions().get(condition);
+        assert_eq!(rt; facts.map(|facts| facts.question), question);
+    }
+    Ok(())
+}
+
+#[test]
+fn a_full_table(rt: HostRuntime) -> Result<(), Fail> {
+    let mut exchange = Exchange::new(rt.alloc(), Limits::standard())?;
+    for question in 0..4_097u64 {
+        let command = prepare(3, question);
+        assert!(rt; command.in_ranges());
+        assert!(rt; command.makes_act());
+        assert!(rt; command.is_built());
+        let answer = exchange.submit(AccountId(2), &command, 7);
+        assert_eq!(rt;
+            matches!(answer, Err(Refusal::TableFull)),
+            question == 4_096
+        );
+    }
+    assert_eq!(rt; exchange.conditions().len(), 4_096);
     Ok(())
 }
 
@@ -183,9 +236,11 @@ fn plans_and_the_end(rt: HostRuntime) -> Result<(), Fail> {
 }
 
 #[test]
-fn codes_and_rests(rt: HostRuntime) {
+fn codes_and_rests(rt: HostRuntime) -> Result<(), Fail> {
     for (refusal, code) in [
         (Refusal::NotAllowed, 5),
+        (Refusal::AlreadyPrepared, 7),
+        (Refusal::TableFull, 8),
         (Refusal::VaultLimit { vault: 9 }, 32),
         (Refusal::HistoryFull, 35),
         (Refusal::Memory, 37),
@@ -196,11 +251,14 @@ fn codes_and_rests(rt: HostRuntime) {
 
     let refusal = Refusal::NotAllowed;
     let fault = LineFault::NotJson;
+    let condition = ConditionId::new(0).ok_or("no condition")?;
     let rests = [
+        Reply::Prepared { condition, lsn: 3 }.rests(),
         Reply::Done { lsn: 4 }.rests(),
         Reply::Vaulted { rests: 6, vault: 9 }.rests(),
         Reply::Refused { refusal, rests: 7 }.rests(),
         Reply::Bad { fault }.rests(),
     ];
-    assert_eq!(rt; rests, [5, 6, 7, 0]);
+    assert_eq!(rt; rests, [4, 5, 6, 7, 0]);
+    Ok(())
 }

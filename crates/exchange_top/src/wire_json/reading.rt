@@ -1,9 +1,9 @@
 ghost use Rattle.std.specs.Prelude.{◌≡◌, if◌then◌else◌, Some, None, true, IfOk, codes, option_and_then, option_map};
 ghost use Rattle.serde_json.specs.View.{view};
-ghost use Rattle.settle_core.specs.Command.{is_account, in_ranges};
+ghost use Rattle.settle_core.specs.Command.{is_account, in_ranges, is_built};
 ghost use Rattle.exchange_top.specs.Json.{number_at, text_at, member_count};
 ghost use Rattle.exchange_top.specs.Ranged.{ranged_account, ranged_command};
-ghost use Rattle.exchange_top.specs.CommandText.{deposit_in, command_in};
+ghost use Rattle.exchange_top.specs.CommandText.{deposit_in, prepare_in, command_in};
 ghost use Rattle.exchange_top.specs.Request.{request, ReadAs, request_in, ranged};
 
 use crate::wire_json::request::Request;
@@ -17,6 +17,7 @@ use std::alloc::Global;
 pub fn read_line(alloc: Global, line: &[u8]) -> Result<Request, LineFault>
     ensures request { ReadAs (request line.now) result }
     ensures ranges { IfOk result (λ request. in_ranges request.command ≡ true) }
+    ensures built { IfOk result (λ request. is_built request.command ≡ true) }
 {
     let value = match Value::from_slice(alloc, line) {
         Ok(value) => value,
@@ -48,17 +49,17 @@ fn request_in(value: &Value) -> Option<Request>
 fn command_in(value: &Value, name: &str) -> Option<Command>
     ensures { result ≡ ranged_command (command_in name.now (view value.now)) }
 {
-    if name == "deposit" {
-        if member_count(value) == 4 {
-            deposit_in(value)
-        } else {
-            None
-        }
-    } else if name == "vault" && member_count(value) == 2 {
-        Some(Command::Vault)
-    } else {
-        None
+    let members = member_count(value);
+    if name == "deposit" && members == 4 {
+        return deposit_in(value);
     }
+    if name == "prepare" && members == 5 {
+        return prepare_in(value);
+    }
+    if name == "vault" && members == 2 {
+        return Some(Command::Vault);
+    }
+    None
 }
 
 fn deposit_in(value: &Value) -> Option<Command>
@@ -66,11 +67,32 @@ fn deposit_in(value: &Value) -> Option<Command>
 {
     let to = number_at(value, "to")?;
     let amount = number_at(value, "amount")?;
-    let command = Command::Deposit {
-        to: account_of(to)?,
-        amount,
-    };
-    if command.in_ranges() {
+    let to = account_of(to)?;
+    kept(Command::Deposit { to, amount })
+}
+
+fn prepare_in(value: &Value) -> Option<Command>
+    ensures { result ≡ ranged_command (prepare_in (view value.now)) }
+{
+    let oracle = number_at(value, "oracle")?;
+    let question = number_at(value, "question")?;
+    let slots = number_at(value, "slots")?;
+    let oracle = account_of(oracle)?;
+    match u8::try_from(slots) {
+        Ok(slots) => kept(Command::Prepare {
+            oracle,
+            question,
+            slots,
+        }),
+        Err(_) => None,
+    }
+}
+
+/// The command, where its members are in their ranges and its form is carried out so far.
+fn kept(command: Command) -> Option<Command>
+    ensures { result ≡ ranged_command (Some command) }
+{
+    if command.in_ranges() && command.is_built() {
         Some(command)
     } else {
         None

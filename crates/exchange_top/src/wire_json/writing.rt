@@ -16,6 +16,13 @@ pub fn write_reply(reply: &Reply, into: &mut Text)
             into.push_number(*lsn);
             into.push(b"}\n");
         }
+        Reply::Prepared { condition, lsn } => {
+            into.push(b"{\"condition\":");
+            into.push_number(u64::from(condition.get()));
+            into.push(b",\"lsn\":");
+            into.push_number(*lsn);
+            into.push(b"}\n");
+        }
         Reply::Vaulted { rests, vault } => {
             into.push(b"{\"rests\":");
             into.push_number(*rests);
@@ -35,6 +42,16 @@ fn write_refusal(refusal: Refusal, rests: u64, into: &mut Text)
     match refusal {
         Refusal::NotAllowed => {
             into.push(b"{\"code\":5,\"error\":\"NotAllowed\",\"rests\":");
+            into.push_number(rests);
+            into.push(b"}\n");
+        }
+        Refusal::AlreadyPrepared => {
+            into.push(b"{\"code\":7,\"error\":\"AlreadyPrepared\",\"rests\":");
+            into.push_number(rests);
+            into.push(b"}\n");
+        }
+        Refusal::TableFull => {
+            into.push(b"{\"code\":8,\"error\":\"TableFull\",\"rests\":");
             into.push_number(rests);
             into.push(b"}\n");
         }

@@ -9,6 +9,10 @@ use std::alloc::AllocError;
 pub enum Refusal {
     /// The account may not ask this, or it names the exchange's own account.
     NotAllowed,
+    /// The condition of this oracle, question and number of slots is prepared already.
+    AlreadyPrepared,
+    /// No condition more can be prepared.
+    TableFull,
     /// The vault, which holds `vault` units, would come to hold more than the limit.
     VaultLimit { vault: u64 },
     /// The history has as many acts as its limit.
@@ -26,6 +30,8 @@ impl Refusal {
     {
         match self {
             Refusal::NotAllowed => 5,
+            Refusal::AlreadyPrepared => 7,
+            Refusal::TableFull => 8,
             Refusal::VaultLimit { .. } => 32,
             Refusal::HistoryFull => 35,
             Refusal::Memory => 37,

@@ -1,6 +1,7 @@
 ghost use Rattle.std.specs.Prelude.{◌≡◌};
 
 use crate::command_words::refusal::Refusal;
+use condition_sets::ConditionId;
 
 /// Why a line is no request.
 #[derive(Clone, Copy, Debug, PartialEq, Eq)]
@@ -21,6 +22,8 @@ pub enum LineFault {
 pub enum Reply {
     /// The command is act `lsn` now.
     Done { lsn: u64 },
+    /// The condition has the number `condition`, and the command is act `lsn` now.
+    Prepared { condition: ConditionId, lsn: u64 },
     /// The vault holds `vault` collateral units.
     Vaulted { rests: u64, vault: u64 },
     /// The exchange refuses the command.
@@ -39,6 +42,7 @@ impl Reply {
     {
         match self {
             Reply::Done { lsn } => *lsn + 1,
+            Reply::Prepared { condition: _, lsn } => *lsn + 1,
             Reply::Vaulted { rests, vault: _ } => *rests,
             Reply::Refused { refusal: _, rests } => *rests,
             Reply::Bad { .. } => 0,

@@ -1,5 +1,5 @@
-use Rattle.std.proofs.Common.{◌≡◌, [], refl, sym, subst}
-use Rattle.outside_faults.specs.Told.{IfTold, IfTold-same}
+use Rattle.std.proofs.Common.{[], refl, sym, subst}
+use Rattle.outside_faults.specs.Told.{IfTold-same}
 use Rattle.line_link.specs.declared.status.Status.TheVariants.{Words, Memory}
 use Rattle.exchange_top.specs.declared.ended.Ended.{Ended}
 use Rattle.exchange_top.specs.Run.{Ran, IsRead}

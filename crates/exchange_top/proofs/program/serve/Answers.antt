@@ -1,14 +1,11 @@
-use Rattle.std.proofs.Common.{◌≡◌, ◌+◌, ◌≤◌, ◌<◌, ℕ, List, [], Ok, Err, sym, ◌∙◌, ap, subst, arith}
+use Rattle.std.proofs.Common.{ℕ, List, Err, sym, ◌∙◌, ap, subst, arith}
 use Rattle.std.specs.Io.KnownBytes.{Appends}
-use Rattle.outside_faults.specs.Told.{IfTold}
 use Rattle.line_link.specs.Heard.{heard}
 use Rattle.line_link.specs.Lines.{AppendsFront}
 use Rattle.line_link.specs.Reading.{Reading, unread}
-use Rattle.line_link.specs.declared.status.Status.TheVariants.{Done, ReadFault, WriteFault, InputLimit}
-use Rattle.settle_core.specs.Bounds.{Bounds, standard}
+use Rattle.line_link.specs.declared.status.Status.TheVariants.{Done, ReadFault, InputLimit}
+use Rattle.settle_core.specs.Bounds.{Bounds}
 use Rattle.exchange_top.specs.declared.ended.Ended.{Ended}
-use Rattle.exchange_top.specs.declared.program.TheConstants.{MAX_INPUT}
-use Rattle.exchange_top.specs.ReplyText.{text_of}
 use Rattle.exchange_top.specs.Run.{Ran}
 use Rattle.exchange_top.specs.Talk.{Turn, AnsweredLine}
 use Rattle.exchange_top.proofs.Serving.{serving-init, serving-step, serving-end, serving-all, serving-first, serving-cut}

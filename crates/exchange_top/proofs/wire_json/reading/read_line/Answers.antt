@@ -1,7 +1,7 @@
 use Rattle.std.proofs.Common.{sym, ◌∙◌, ap}
 use Rattle.serde_json.specs.View.{view}
 use Rattle.exchange_top.specs.Request.{or_no_command, request_in}
-use Rattle.exchange_top.proofs.Requests.{request-read, request-no_json, ranged-command}
+use Rattle.exchange_top.proofs.Requests.{request-read, request-no_json, ranged-ranges, ranged-built}
 use Rattle.exchange_top.proofs.wire_json.reading.read_line.Goals as goal
 
 pub returns-in_default-clause-request : goal.returns-in_default-clause-request
@@ -16,4 +16,7 @@ returns-clause-request c =
     request-read c.args.line.now (view c.in-Ok.value) c.in-Ok.ensures.ok.0 c.in-Ok.ensures.ok.1 ∙ ap or_no_command (sym c.request_in.ensures ∙ c.in-None.is)
 
 pub returns-in-Some-clause-ranges : goal.returns-in-Some-clause-ranges
-returns-in-Some-clause-ranges c = ranged-command (request_in (view c.in-Ok.value)) c.in-Some.request (sym c.request_in.ensures ∙ c.in-Some.is)
+returns-in-Some-clause-ranges c = ranged-ranges (request_in (view c.in-Ok.value)) c.in-Some.request (sym c.request_in.ensures ∙ c.in-Some.is)
+
+pub returns-in-Some-clause-built : goal.returns-in-Some-clause-built
+returns-in-Some-clause-built c = ranged-built (request_in (view c.in-Ok.value)) c.in-Some.request (sym c.request_in.ensures ∙ c.in-Some.is)
