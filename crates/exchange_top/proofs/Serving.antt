@@ -14,7 +14,7 @@ use Rattle.settle_core.specs.declared.command_words.act.Act.{Act}
 use Rattle.settle_core.specs.Bounds.{Bounds, standard}
 use Rattle.exchange_top.specs.declared.program.TheConstants.{MAX_INPUT}
 use Rattle.exchange_top.specs.ReplyText.{text_of}
-use Rattle.exchange_top.specs.Run.{Ran, IsRead, AreFirst, IsWritten, written, texts}
+use Rattle.exchange_top.specs.Run.{Ran, IsRead, AreFirst, IsQuiet, IsWritten, written, texts}
 use Rattle.exchange_top.specs.Talk.{Turn, IsTalk, AnsweredLine}
 
 abbrev heard_of_turns : List Turn → List Heard
@@ -127,12 +127,14 @@ pub serving-end : (status : Status) (lines count count' : ℕ) (history : List A
     → (s : Serving lines history pending count left_before left_now held_before held_now told_before told_now)
     → IfTold left_before left_next (IsRead status (heard_of_turns s.turns))
     → (length s.turns ≡ lines → IsWritten status lines 0 s.turns)
+    → IsQuiet status s.turns
     → Ran (record { status = status; lines = lines; acts = length history }) left_before left_next held_before held_now told_before told_now
-serving-end status lines count count' history pending left_before left_now left_next held_before held_now told_before told_now s read whole = record {
+serving-end status lines count count' history pending left_before left_now left_next held_before held_now told_before told_now s read whole quiet = record {
   turns = s.turns;
   history = history;
   more = 0;
   talk = s.talk;
+  quiet = quiet;
   read = read;
   moments = s.moments;
   texts = IfTold-weaker held_before held_now _ _ (λ a b h. h ∙ ap (λ (bytes : List ℕ). a ++ bytes) (sym (written-whole lines s.turns s.counted))) s.texts;
@@ -194,6 +196,7 @@ serving-cut lines count count' history after pending pending' turn left_before l
   turns = s.turns ++ turn ∷ [];
   history = after;
   more = front.0;
+  quiet = tt;
   talk = IsTalk-more standard [] history after s.turns turn s.talk answered;
   read = IfTold-trans left_before left_now left_next _ _ _ (λ input rest rest' so_far next.
       AreFirst-front input (heard_of_turns (s.turns ++ turn ∷ [])) (heard_lines (pending' ++ rest')) (heard_more input pending rest pending' rest' s.turns turn so_far next)) s.read line;
@@ -212,8 +215,8 @@ serving-init history reading left held told empty fresh =
 
 -- nothing was read, and nothing is written
 pub ran-nothing : (status : Status) (left held : Option (List ℕ)) (told : List ℕ → Type 0)
-    → IfTold left left (IsRead status []) → IsWritten status 0 0 []
+    → IfTold left left (IsRead status []) → IsWritten status 0 0 [] → IsQuiet status []
     → Ran (record { status = status; lines = 0; acts = 0 }) left left held held told told
 unfolding serving-start
-ran-nothing status left held told read whole =
-    serving-end status 0 0 0 [] [] left left left held held told told (serving-start left held told) read (λ _. whole)
+ran-nothing status left held told read whole quiet =
+    serving-end status 0 0 0 [] [] left left left held held told told (serving-start left held told) read (λ _. whole) quiet

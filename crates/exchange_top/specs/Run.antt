@@ -1,5 +1,5 @@
 -- What a run reads, answers and writes.
-use Rattle.std.specs.Prelude.{◌≡◌, ℕ, ◌+◌, ◌<◌, List, [], ◌++◌, length, map, take, drop, Option}
+use Rattle.std.specs.Prelude.{◌≡◌, ℕ, ◌+◌, ◌<◌, ⊤, List, [], ◌++◌, length, map, take, drop, Option}
 use Rattle.std.specs.List.{flat_map}
 use Rattle.outside_faults.specs.Told.{IfTold}
 use Rattle.line_link.specs.Lines.{Heard, heard_lines}
@@ -18,11 +18,20 @@ AreFirst heard bytes = take (length heard) (heard_lines bytes) ≡ heard
 -- which lines of the input were heard, and what was left of it, by how the run ended
 abbrev pub IsRead : Status → List Heard → List ℕ → List ℕ → Type 0
 IsRead Done heard input left = (heard ≡ heard_lines input) × (left ≡ [])
-IsRead Words heard input left = (heard ≡ []) × (left ≡ input)
-IsRead Memory heard input left = (heard ≡ []) × (left ≡ input)
+IsRead Words heard input left = left ≡ input
+IsRead Memory heard input left = left ≡ input
 IsRead ReadFault heard input left = AreFirst heard input
 IsRead WriteFault heard input left = AreFirst heard input
 IsRead InputLimit heard input left = AreFirst heard input
+
+-- a run whose words aren't a command, or for which memory was wanting at the start, hears and answers nothing
+abbrev pub IsQuiet : Status → List Turn → Type 0
+IsQuiet Words turns = turns ≡ []
+IsQuiet Memory turns = turns ≡ []
+IsQuiet Done turns = ⊤
+IsQuiet ReadFault turns = ⊤
+IsQuiet WriteFault turns = ⊤
+IsQuiet InputLimit turns = ⊤
 
 -- the texts of the replies, one after another
 abbrev pub texts : List Turn → List ℕ
@@ -48,6 +57,7 @@ pub record Ran (ended : Ended) (left_before left_after held_before held_after : 
   pub more : ℕ
   -- each line was answered by the rules, over the history that the lines before it left
   pub talk : IsTalk standard [] turns history
+  pub quiet : IsQuiet ended.status turns
   -- the lines are those of the input
   pub read : IfTold left_before left_after (IsRead ended.status (map (λ turn. turn.line) turns))
   -- the moments are those that the clock told, one for each line

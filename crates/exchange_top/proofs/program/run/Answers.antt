@@ -12,7 +12,7 @@ returns-then-not-is_run-clause-ran g c =
     let held = g.W.Sink.held c.args.sink.now in
     let told = g.C.Clock.may_have_told c.args.clock.now in
     subst (λ (e : Ended). Ran e left left held held told told) (sym c.ended.ensures)
-    (ran-nothing Words left held told (IfTold-same left (IsRead Words []) (λ input. (refl, refl))) refl)
+    (ran-nothing Words left held told (IfTold-same left (IsRead Words []) (λ input. refl)) refl refl)
 
 pub returns-in-Err-clause-ran : goal.returns-in-Err-clause-ran
 returns-in-Err-clause-ran g c =
@@ -20,4 +20,4 @@ returns-in-Err-clause-ran g c =
     let held = g.W.Sink.held c.args.sink.now in
     let told = g.C.Clock.may_have_told c.args.clock.now in
     subst (λ (e : Ended). Ran e left left held held told told) (sym c.ended-in-Err.ensures)
-    (ran-nothing Memory left held told (IfTold-same left (IsRead Memory []) (λ input. (refl, refl))) refl)
+    (ran-nothing Memory left held told (IfTold-same left (IsRead Memory []) (λ input. refl)) refl refl)

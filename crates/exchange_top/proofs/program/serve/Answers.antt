@@ -29,7 +29,7 @@ returns-in-Err-End-clause-ran g c =
     let told = g.C.Clock.may_have_told in
     let all = serving-all _ _ _ _ (left c.args.source.now) (left c.lines.source) (left c.next.new.source) _ _ _ _ s (c.in-Err-End.ensures.end (ap Err c.in-Err-End.field-0-is)) in
     subst (λ (e : Ended). Ran e (left c.args.source.now) (left c.next.new.source) (held c.args.sink.now) (held c.lines.sink) (told c.args.clock.now) (told c.lines.clock)) (sym c.end.ensures)
-    (serving-end Done c.lines.lines c.lines.desk.reader.taken c.next.new.self.taken c.lines.desk.exchange.history c.lines.desk.reader.pending (left c.args.source.now) (left c.lines.source) (left c.next.new.source) (held c.args.sink.now) (held c.lines.sink) (told c.args.clock.now) (told c.lines.clock) s all (λ whole. whole))
+    (serving-end Done c.lines.lines c.lines.desk.reader.taken c.next.new.self.taken c.lines.desk.exchange.history c.lines.desk.reader.pending (left c.args.source.now) (left c.lines.source) (left c.next.new.source) (held c.args.sink.now) (held c.lines.sink) (told c.args.clock.now) (told c.lines.clock) s all (λ whole. whole) tt)
 
 pub returns-in-Err-ReadFault-clause-ran : goal.returns-in-Err-ReadFault-clause-ran
 returns-in-Err-ReadFault-clause-ran g c =
@@ -39,7 +39,7 @@ returns-in-Err-ReadFault-clause-ran g c =
     let told = g.C.Clock.may_have_told in
     let first = serving-first _ c.lines.desk.reader.taken c.next.new.self.taken _ _ (left c.args.source.now) (left c.lines.source) (left c.next.new.source) _ _ _ _ s c.in-Err-ReadFault.ensures.taken in
     subst (λ (e : Ended). Ran e (left c.args.source.now) (left c.next.new.source) (held c.args.sink.now) (held c.lines.sink) (told c.args.clock.now) (told c.lines.clock)) (sym c.end-in-Err-ReadFault.ensures)
-    (serving-end ReadFault c.lines.lines c.lines.desk.reader.taken c.next.new.self.taken c.lines.desk.exchange.history c.lines.desk.reader.pending (left c.args.source.now) (left c.lines.source) (left c.next.new.source) (held c.args.sink.now) (held c.lines.sink) (told c.args.clock.now) (told c.lines.clock) s first (λ whole. whole))
+    (serving-end ReadFault c.lines.lines c.lines.desk.reader.taken c.next.new.self.taken c.lines.desk.exchange.history c.lines.desk.reader.pending (left c.args.source.now) (left c.lines.source) (left c.next.new.source) (held c.args.sink.now) (held c.lines.sink) (told c.args.clock.now) (told c.lines.clock) s first (λ whole. whole) tt)
 
 pub returns-in-Err-InputLimit-clause-ran : goal.returns-in-Err-InputLimit-clause-ran
 returns-in-Err-InputLimit-clause-ran g c =
@@ -49,7 +49,7 @@ returns-in-Err-InputLimit-clause-ran g c =
     let told = g.C.Clock.may_have_told in
     let first = serving-first _ c.lines.desk.reader.taken c.next.new.self.taken _ _ (left c.args.source.now) (left c.lines.source) (left c.next.new.source) _ _ _ _ s c.in-Err-InputLimit.ensures.taken in
     subst (λ (e : Ended). Ran e (left c.args.source.now) (left c.next.new.source) (held c.args.sink.now) (held c.lines.sink) (told c.args.clock.now) (told c.lines.clock)) (sym c.end-in-Err-InputLimit.ensures)
-    (serving-end InputLimit c.lines.lines c.lines.desk.reader.taken c.next.new.self.taken c.lines.desk.exchange.history c.lines.desk.reader.pending (left c.args.source.now) (left c.lines.source) (left c.next.new.source) (held c.args.sink.now) (held c.lines.sink) (told c.args.clock.now) (told c.lines.clock) s first (λ whole. whole))
+    (serving-end InputLimit c.lines.lines c.lines.desk.reader.taken c.next.new.self.taken c.lines.desk.exchange.history c.lines.desk.reader.pending (left c.args.source.now) (left c.lines.source) (left c.next.new.source) (held c.args.sink.now) (held c.lines.sink) (told c.args.clock.now) (told c.lines.clock) s first (λ whole. whole) tt)
 
 pub lines-preserved : goal.lines-preserved
 lines-preserved g c =
