@@ -1,4 +1,8 @@
-ghost use Rattle.std.specs.Prelude.{◌≡◌, ◌<◌, drop, Some};
+ghost use Rattle.std.specs.Prelude.{◌≡◌, ◌<◌, ◌↔◌, drop, length, min, Some, IsErr, IfOk, Contains};
+ghost use Rattle.std.specs.Io.{ReadsAtMost};
+ghost use Rattle.std.specs.Io.KnownBytes.{ReadConsumes};
+ghost use Rattle.outside_faults.specs.Faults.{HasCause};
+ghost use Rattle.outside_faults.specs.Script.{raised_calls};
 ghost use Rattle.outside_faults.specs.Told.{no_side};
 ghost use Rattle.line_link.specs.Memory.{Content};
 
@@ -17,21 +21,21 @@ pub struct MemorySource {
 }
 
 impl Model for MemorySource {
-    ghost use Rattle.std.specs.Prelude.{ℕ, ◌≤◌, ◌<◌, ◌^◌, drop, vec_len};
+    ghost use Rattle.std.specs.Prelude.{ℕ, ◌≤◌, ◌<◌, drop, vec_len};
     ghost use Rattle.line_link.specs.Memory.{Content};
 
     ghost Value = { Content };
 
-    ghost view = { λ s. record { bytes = drop s.at s.bytes.items; faults = s.faults } };
+    ghost view = { λ s. record { bytes = drop s.at s.bytes.items; faults = s.faults; piece = s.piece; script = s.failing } };
 
-    ghost invariant = { λ s. (s.at ≤ vec_len s.bytes) × (0 < s.piece) × (s.faults < 2 ^ 64) };
+    ghost invariant = { λ s. (s.at ≤ vec_len s.bytes) × (0 < s.piece) };
 }
 
 impl MemorySource {
     /// All these bytes are left. A read gives at most `piece` bytes.
     pub fn new(bytes: Vec<u8>, piece: usize, failing: FailingCalls) -> MemorySource
         requires { 0 < piece }
-        ensures { result ≡ record { bytes = bytes.items; faults = 0 } }
+        ensures { result ≡ record { bytes = bytes.items; faults = 0; piece = piece; script = failing } }
     {
         MemorySource {
             bytes,
@@ -57,7 +61,17 @@ impl Source for MemorySource {
 
     ghost kept_by_read = { λ _. no_side };
 
-    fn read(&mut self, into: &mut [u8]) -> Result<usize, Failed> {
+    fn read(&mut self, into: &mut [u8]) -> Result<usize, Failed>
+        ensures bound { ReadsAtMost result into.new }
+        ensures bytes { ReadConsumes (Some self.old.bytes) (Some self.new.bytes) result into.new }
+        ensures cause { HasCause self.old.faults self.new.faults result }
+
+        // It fails at just the calls that are to fail, and gives whole pieces.
+        ensures scripted { IsErr result ↔ Contains self.old.script.failing self.new.script.made }
+        ensures script { self.new.script ≡ raised_calls self.old.script }
+        ensures whole { IfOk result (λ n. n ≡ min (min (length self.old.bytes) (length into.new)) self.old.piece) }
+        ensures piece { self.new.piece ≡ self.old.piece }
+    {
         if self.failing.next_fails() {
             return Err(self.faults.raise());
         }
