@@ -1,4 +1,4 @@
-ghost use Rattle.std.specs.Prelude.{◌≡◌, List, [], ◌∷◌, ◌++◌, OnOk, OnErr};
+ghost use Rattle.std.specs.Prelude.{◌≡◌, List, [], ◌∷◌, ◌++◌, IfOk, OnOk, OnErr};
 
 use crate::names::OrderId;
 use crate::no_memory::NoMemory;
@@ -62,6 +62,17 @@ impl<T> ListOf<T> {
     {
         self.items.push(item)?;
         Ok(())
+    }
+
+    /// An equal list.
+    pub fn copy(&self, alloc: Global) -> Result<Self, NoMemory>
+    where
+        T: Copy,
+        ensures { IfOk result (λ copy. copy ≡ self.now) }
+    {
+        Ok(ListOf {
+            items: Vec::from_slice(alloc, self.as_slice())?,
+        })
     }
 
     /// The items, in their order. It takes no memory.

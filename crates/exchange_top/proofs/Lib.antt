@@ -1,3 +1,4 @@
+mod JsonLists
 mod Members
 mod Requests
 mod Serving

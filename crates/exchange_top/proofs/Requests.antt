@@ -1,6 +1,6 @@
 -- What a line is, by what reading its JSON gave.
 use Rattle.std.proofs.Common.{◌≡◌, ℕ, List, Option, Some, None, Err, Bool, true, false, refl, sym, ◌∙◌, ap, subst, inl, inr}
-use Rattle.std.specs.Prelude.{IsUtf8, ◌&&◌}
+use Rattle.std.specs.Prelude.{IsUtf8, ◌&&◌, codes, option_and_then, option_map}
 use Rattle.std.specs.Str.{is_utf8}
 use Rattle.std.proofs.lemmas.Bool.{cases_Bool, cond-true, cond-false}
 use Rattle.std.proofs.lemmas.Str.{IsUtf8-from_is_utf8, is_utf8-from_IsUtf8}
@@ -9,7 +9,11 @@ use Rattle.serde_json.specs.Read.{read}
 use Rattle.settle_core.specs.declared.command_words.reply.LineFault.TheVariants.{NotJson}
 use Rattle.settle_core.specs.Command.{is_account, in_ranges, is_built}
 use Rattle.exchange_top.specs.declared.wire_json.request.Request.{Request}
-use Rattle.exchange_top.specs.Request.{request, request_in, ranged, or_no_command, or_no_json}
+use Rattle.settle_core.specs.declared.command_words.command.Command.{Command}
+use Rattle.exchange_top.specs.CommandText.{command_in}
+use Rattle.exchange_top.specs.Json.{number_at, text_at}
+use Rattle.exchange_top.specs.Ranged.{ranged_account, ranged_command}
+use Rattle.exchange_top.specs.Request.{request, request_by, request_in, ranged, or_no_command, or_no_json}
 
 and_right : (a b : Bool) → (a && b) ≡ true → b ≡ true
 and_right true b both = both
@@ -47,3 +51,24 @@ ranged-ranges o r kept = and_left (in_ranges r.command) (is_built r.command) (ra
 
 pub ranged-built : (o : Option Request) (r : Request) → ranged o ≡ Some r → is_built r.command ≡ true
 ranged-built o r kept = and_right (in_ranges r.command) (is_built r.command) (ranged-command o r kept)
+
+-- keeping the account and the command each in its ranges keeps the request in its ranges
+pub asked-ranged : (account : ℕ) (o : Option Command)
+    → option_and_then (λ a. option_map (request_by a) (ranged_command o)) (ranged_account account) ≡ ranged (option_map (request_by account) o)
+asked-ranged account None =
+    elim (cases_Bool (is_account account)) [ inl one ↦ rw one refl | inr other ↦ rw other refl ]
+asked-ranged account (Some command) =
+    elim (cases_Bool (is_account account)) [
+      | inl one ↦
+          elim (cases_Bool (in_ranges command && is_built command)) [
+            | inl fits ↦ rw (one, fits) refl
+            | inr unfit ↦ rw (one, unfit) refl
+          ]
+      | inr other ↦ rw other refl
+    ]
+
+pub asked-request : (d : Data) (name : List ℕ) (account : ℕ) (command : Option Command)
+    → Some name ≡ text_at (codes "do") d → Some account ≡ number_at (codes "by") d → command ≡ ranged_command (command_in name d)
+    → option_and_then (λ a. option_map (request_by a) command) (ranged_account account) ≡ ranged (request_in d)
+asked-request d name account command named numbered is =
+    rw is (rw (← named) (rw (← numbered) (asked-ranged account (command_in name d))))

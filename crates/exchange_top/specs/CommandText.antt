@@ -3,8 +3,8 @@ use Rattle.std.specs.Prelude.{◌==◌, ℕ, if◌then◌else◌, List, codes, O
 use Rattle.std.specs.Str.{bytes_eq}
 use Rattle.serde_json.specs.Data.{Data}
 use Rattle.settle_core.specs.declared.command_words.command.Command.{Command}
-use Rattle.settle_core.specs.declared.command_words.command.Command.TheVariants.{Deposit, Prepare, Vault}
-use Rattle.exchange_top.specs.Json.{number_at, member_count}
+use Rattle.settle_core.specs.declared.command_words.command.Command.TheVariants.{Deposit, Prepare, Balance, Vault}
+use Rattle.exchange_top.specs.Json.{number_at, key_at, member_count}
 
 -- {"do":"deposit","by":account,"to":account,"amount":amount}
 abbrev pub deposit_in : Data → Option Command
@@ -15,10 +15,15 @@ abbrev pub prepare_in : Data → Option Command
 prepare_in d =
     option_and_then (λ oracle. option_and_then (λ question. option_map (λ slots. Prepare oracle question slots) (number_at (codes "slots") d)) (number_at (codes "question") d)) (number_at (codes "oracle") d)
 
+-- {"do":"balance","by":account,"of":account,"key":key}
+abbrev pub balance_in : Data → Option Command
+balance_in d = option_and_then (λ holder. option_map (λ key. Balance holder key) (key_at (codes "key") d)) (number_at (codes "of") d)
+
 -- the command of this name, where the object has just its members and each is of its kind
 abbrev pub command_in : List ℕ → Data → Option Command
 command_in name d =
     if bytes_eq name (codes "deposit") then (if member_count d == 4 then deposit_in d else None)
     else (if bytes_eq name (codes "prepare") then (if member_count d == 5 then prepare_in d else None)
+    else (if bytes_eq name (codes "balance") then (if member_count d == 4 then balance_in d else None)
     else (if bytes_eq name (codes "vault") then (if member_count d == 2 then Some Vault else None)
-    else None))
+    else None)))

@@ -1,14 +1,15 @@
 -- The text of each reply: one JSON object without spaces, members in ascending order of their names, and a newline.
 use Rattle.std.specs.Prelude.{ℕ, List, ◌++◌, codes, decimal}
 use Rattle.settle_core.specs.declared.command_words.refusal.Refusal.{Refusal}
-use Rattle.settle_core.specs.declared.command_words.refusal.Refusal.TheVariants.{NotAllowed, AlreadyPrepared, TableFull, VaultLimit, HistoryFull, Memory}
+use Rattle.settle_core.specs.declared.command_words.refusal.Refusal.TheVariants.{NotAllowed, NoCondition, AlreadyPrepared, TableFull, VaultLimit, HistoryFull, Memory}
 use Rattle.settle_core.specs.declared.command_words.reply.LineFault.{LineFault}
 use Rattle.settle_core.specs.declared.command_words.reply.LineFault.TheVariants as fault
 use Rattle.settle_core.specs.declared.command_words.reply.Reply.{Reply}
-use Rattle.settle_core.specs.declared.command_words.reply.Reply.TheVariants.{Done, Prepared, Vaulted, Refused, Bad}
+use Rattle.settle_core.specs.declared.command_words.reply.Reply.TheVariants.{Done, Prepared, Balanced, Vaulted, Refused, Bad}
 
 abbrev pub refusal_text : Refusal → ℕ → List ℕ
 refusal_text NotAllowed rests = codes "{\"code\":5,\"error\":\"NotAllowed\",\"rests\":" ++ decimal rests ++ codes "}\n"
+refusal_text NoCondition rests = codes "{\"code\":6,\"error\":\"NoCondition\",\"rests\":" ++ decimal rests ++ codes "}\n"
 refusal_text AlreadyPrepared rests = codes "{\"code\":7,\"error\":\"AlreadyPrepared\",\"rests\":" ++ decimal rests ++ codes "}\n"
 refusal_text TableFull rests = codes "{\"code\":8,\"error\":\"TableFull\",\"rests\":" ++ decimal rests ++ codes "}\n"
 refusal_text (VaultLimit vault) rests =
@@ -25,6 +26,7 @@ fault_text fault.Memory = codes "{\"code\":37,\"error\":\"Memory\"}\n"
 abbrev pub text_of : Reply → List ℕ
 text_of (Done lsn) = codes "{\"lsn\":" ++ decimal lsn ++ codes "}\n"
 text_of (Prepared condition lsn) = codes "{\"condition\":" ++ decimal condition ++ codes ",\"lsn\":" ++ decimal lsn ++ codes "}\n"
+text_of (Balanced amount rests) = codes "{\"amount\":" ++ decimal amount ++ codes ",\"rests\":" ++ decimal rests ++ codes "}\n"
 text_of (Vaulted rests vault) = codes "{\"rests\":" ++ decimal rests ++ codes ",\"vault\":" ++ decimal vault ++ codes "}\n"
 text_of (Refused refusal rests) = refusal_text refusal rests
 text_of (Bad fault) = fault_text fault

@@ -7,7 +7,7 @@ use Rattle.settle_core.specs.declared.command_words.refusal.Refusal.TheVariants 
 use Rattle.settle_core.specs.declared.command_words.reply.LineFault.{LineFault}
 use Rattle.settle_core.specs.declared.command_words.reply.LineFault.TheVariants.{TooLong, NotJson, NotCommand, Memory}
 use Rattle.settle_core.specs.declared.command_words.reply.Reply.{Reply}
-use Rattle.settle_core.specs.declared.command_words.reply.Reply.TheVariants.{Done, Prepared, Vaulted, Refused, Bad}
+use Rattle.settle_core.specs.declared.command_words.reply.Reply.TheVariants.{Done, Prepared, Balanced, Vaulted, Refused, Bad}
 use Rattle.settle_core.specs.Bounds.{Bounds}
 use Rattle.settle_core.specs.Reply.{Answered, no_memory}
 use Rattle.exchange_top.specs.declared.wire_json.request.Request.{Request}
@@ -35,6 +35,7 @@ abbrev pub is_unread : Reply → Bool
 is_unread (Bad fault) = is_memory_fault fault
 is_unread (Done lsn) = false
 is_unread (Prepared condition lsn) = false
+is_unread (Balanced amount rests) = false
 is_unread (Vaulted rests vault) = false
 is_unread (Refused refusal rests) = false
 

@@ -57,7 +57,7 @@ fn calm() -> Outside<'static> {
 
 #[test]
 fn answers_each_line(rt: HostRuntime) -> Result<(), Fail> {
-    let table: [(&[u8], &[u8]); 13] = [
+    let table: [(&[u8], &[u8]); 15] = [
         (b"", b""),
         (b"\n", b"{\"code\":2,\"error\":\"NotJson\"}\n"),
         (b"\xff\n", b"{\"code\":2,\"error\":\"NotJson\"}\n"),
@@ -91,6 +91,14 @@ fn answers_each_line(rt: HostRuntime) -> Result<(), Fail> {
         (
             b"{\"do\":\"deposit\",\"by\":0,\"to\":2,\"amount\":1000000000000000}\n{\"do\":\"deposit\",\"by\":0,\"to\":2,\"amount\":1}\n{\"do\":\"deposit\",\"by\":2,\"to\":2,\"amount\":1}\n",
             b"{\"lsn\":0}\n{\"code\":32,\"error\":\"VaultLimit\",\"rests\":1,\"vault\":1000000000000000}\n{\"code\":5,\"error\":\"NotAllowed\",\"rests\":1}\n",
+        ),
+        (
+            b"{\"do\":\"deposit\",\"by\":0,\"to\":2,\"amount\":100}\n{\"do\":\"balance\",\"by\":2,\"of\":2,\"key\":[]}\n{\"do\":\"balance\",\"by\":2,\"of\":2,\"key\":[[0,1]]}\n",
+            b"{\"lsn\":0}\n{\"amount\":100,\"rests\":1}\n{\"code\":6,\"error\":\"NoCondition\",\"rests\":1}\n",
+        ),
+        (
+            b"{\"do\":\"balance\",\"by\":2,\"of\":2,\"key\":[[65536,1]]}\n{\"do\":\"balance\",\"by\":2,\"of\":2,\"key\":[0,1]}\n",
+            b"{\"code\":3,\"error\":\"NotCommand\"}\n{\"code\":3,\"error\":\"NotCommand\"}\n",
         ),
     ];
     for (input, replies) in table {

@@ -1,5 +1,7 @@
+mod Balances
 mod Cash
 mod Histories
 mod KeptLemmas
 mod Lowest
 mod Verdicts
+mod Walks

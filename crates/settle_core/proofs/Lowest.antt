@@ -2,7 +2,7 @@
 use Rattle.std.proofs.Common.{◌≡◌, ℕ, ◌<◌, ◌≤◌, List, [], ◌∷◌, length, Option, Some, None, refl, subst, arith, zero, suc, Bool, true, false}
 use Rattle.std.specs.Prelude.{Contains, slice_index_or}
 use Rattle.settle_core.specs.declared.command_words.refusal.Refusal.{Refusal}
-use Rattle.settle_core.specs.declared.command_words.refusal.Refusal.TheVariants.{NotAllowed, AlreadyPrepared, TableFull, VaultLimit, HistoryFull}
+use Rattle.settle_core.specs.declared.command_words.refusal.Refusal.TheVariants.{NotAllowed, NoCondition, AlreadyPrepared, TableFull, VaultLimit, HistoryFull}
 use Rattle.settle_core.specs.Postings.{vault}
 use Rattle.settle_core.specs.Refusal.{code_of}
 use Rattle.settle_core.specs.Verdict.{Question, where_, first_some, refusals}
@@ -28,18 +28,23 @@ refusals-rise q = (
   omega arith,
   where_-numbered _ NotAllowed,
   (
-    7,
+    6,
     omega arith,
-    where_-numbered _ AlreadyPrepared,
+    where_-numbered _ NoCondition,
     (
-      8,
+      7,
       omega arith,
-      where_-numbered _ TableFull,
+      where_-numbered _ AlreadyPrepared,
       (
-        32,
+        8,
         omega arith,
-        where_-numbered _ (VaultLimit (vault q.history)),
-        (35, omega arith, where_-numbered _ HistoryFull, tt),
+        where_-numbered _ TableFull,
+        (
+          32,
+          omega arith,
+          where_-numbered _ (VaultLimit (vault q.history)),
+          (35, omega arith, where_-numbered _ HistoryFull, tt),
+        ),
       ),
     ),
   ),

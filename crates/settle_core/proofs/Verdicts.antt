@@ -4,7 +4,7 @@ use Rattle.std.specs.Prelude.{slice_get, nat_le, ◌&&◌}
 use Rattle.std.proofs.lemmas.Bool.Decides.{nat_tests}
 use Rattle.condition_sets.specs.declared.amount.TheConstants.{MAX_AMOUNT}
 use Rattle.settle_core.specs.declared.command_words.command.Command.{Command}
-use Rattle.settle_core.specs.declared.command_words.command.Command.TheVariants.{Deposit, Prepare, Vault}
+use Rattle.settle_core.specs.declared.command_words.command.Command.TheVariants.{Deposit, Prepare, Balance, Vault}
 use Rattle.settle_core.specs.declared.command_words.refusal.Refusal.{Refusal}
 use Rattle.settle_core.specs.declared.command_words.refusal.Refusal.TheVariants.{AlreadyPrepared, TableFull, VaultLimit, HistoryFull}
 use Rattle.settle_core.specs.Command.{makes_act}
@@ -32,27 +32,28 @@ and_right false b first both = cc
 pub accepted-within : (q : Question) → verdict q ≡ None → makes_act q.command ≡ true → length q.history < q.limits.history
 unfolding verdict
 accepted-within q none acts =
-    let full : history_full q ≡ None = first_some-none (refusals q) 4 (history_full q) none refl in
+    let full : history_full q ≡ None = first_some-none (refusals q) 5 (history_full q) none refl in
     let room : nat_le q.limits.history (length q.history) ≡ false = and_right (makes_act q.command) (nat_le q.limits.history (length q.history)) acts (where_-none _ HistoryFull full) in
     grind (arith, nat_tests, room)
 
 deposit-within : (held : ℕ) (command : Command) → held ≤ MAX_AMOUNT → is_above_vault held command ≡ false → held + deposit_of command ≤ MAX_AMOUNT
 deposit-within held (Deposit to amount) funded below = grind (arith, nat_tests, below)
 deposit-within held (Prepare oracle question slots) funded below = omega arith
+deposit-within held (Balance holder key) funded below = omega arith
 deposit-within held Vault funded below = omega arith
 
 -- an accepted command leaves the vault within its limit
 pub accepted-vault : (q : Question) → verdict q ≡ None → vault q.history ≤ MAX_AMOUNT → vault q.history + deposit_of q.command ≤ MAX_AMOUNT
 unfolding verdict
 accepted-vault q none funded =
-    let limit : vault_limit q ≡ None = first_some-none (refusals q) 3 (vault_limit q) none refl in
+    let limit : vault_limit q ≡ None = first_some-none (refusals q) 4 (vault_limit q) none refl in
     deposit-within (vault q.history) q.command funded (where_-none _ (VaultLimit (vault q.history)) limit)
 
 -- an accepted command prepares no condition again, and finds room in the table
 pub accepted-new : (q : Question) → verdict q ≡ None → prepares_again (conditions q.history) q.command ≡ false
 unfolding verdict
-accepted-new q none = where_-none _ AlreadyPrepared (first_some-none (refusals q) 1 (already_prepared q) none refl)
+accepted-new q none = where_-none _ AlreadyPrepared (first_some-none (refusals q) 2 (already_prepared q) none refl)
 
 pub accepted-table : (q : Question) → verdict q ≡ None → is_above_table q.limits.conditions (conditions q.history) q.command ≡ false
 unfolding verdict
-accepted-table q none = where_-none _ TableFull (first_some-none (refusals q) 2 (table_full q) none refl)
+accepted-table q none = where_-none _ TableFull (first_some-none (refusals q) 3 (table_full q) none refl)

@@ -3,17 +3,10 @@
 use Rattle.std.specs.Prelude.{◌≡◌, ℕ, List, [], ◌∷◌, ◌++◌, fold}
 use Rattle.std.proofs.lemmas.List.Sums.{fold-append}
 use Rattle.settle_core.specs.declared.command_words.command.Command.{Command}
-use Rattle.settle_core.specs.declared.command_words.command.Command.TheVariants.{Deposit, Prepare, Vault}
+use Rattle.settle_core.specs.declared.command_words.command.Command.TheVariants.{Deposit, Prepare, Balance, Vault}
 use Rattle.settle_core.specs.declared.command_words.act.Act.{Act}
+use Rattle.settle_core.specs.Keys.{Collection, root}
 use Rattle.settle_core.specs.declared.condition_table.facts.Facts.{Facts}
-
--- A collection: the conditions that it has in ascending order, each with the bits of its index set.
-abbrev pub Collection : Type 0
-Collection = List (ℕ × ℕ)
-
--- the empty collection, whose position is cash
-abbrev pub root : Collection
-root = []
 
 -- one entry of the ledger: what is paid to an account's position in a collection, and what is taken from it
 pub record Posting : Type 0 where
@@ -34,12 +27,14 @@ blank = record { conditions = []; postings = [] }
 abbrev pub prepared_after : Command → List Facts → List Facts
 prepared_after (Deposit to amount) prepared = prepared
 prepared_after (Prepare oracle question slots) prepared = prepared ++ record { oracle = oracle; question = question; slots = slots } ∷ []
+prepared_after (Balance holder key) prepared = prepared
 prepared_after Vault prepared = prepared
 
 -- what was posted after it
 abbrev pub posted_after : Command → List Posting → List Posting
 posted_after (Deposit to amount) posted = posted ++ record { account = to; collection = root; paid = amount; taken = 0 } ∷ []
 posted_after (Prepare oracle question slots) posted = posted
+posted_after (Balance holder key) posted = posted
 posted_after Vault posted = posted
 
 abbrev pub entered : Book → Act → Book

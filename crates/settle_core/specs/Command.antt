@@ -3,13 +3,16 @@ use Rattle.std.specs.Prelude.{◌==◌, ℕ, ◌^◌, ◌&&◌, Bool, true, fals
 use Rattle.condition_sets.specs.declared.amount.TheConstants.{MAX_AMOUNT}
 use Rattle.condition_sets.specs.declared.slot_count.TheConstants.{MIN_SLOTS, MAX_SLOTS}
 use Rattle.settle_core.specs.declared.command_words.command.TheConstants.{MAX_QUESTION}
+use Rattle.std.specs.List.{list_all}
+use Rattle.settle_core.specs.Keys.{is_condition, is_simple}
 use Rattle.settle_core.specs.declared.command_words.command.Command.{Command}
-use Rattle.settle_core.specs.declared.command_words.command.Command.TheVariants.{Deposit, Prepare, Vault}
+use Rattle.settle_core.specs.declared.command_words.command.Command.TheVariants.{Deposit, Prepare, Balance, Vault}
 
 -- whether the command becomes an act of the history where it is accepted; the others are readings
 abbrev pub makes_act : Command → Bool
 makes_act (Deposit to amount) = true
 makes_act (Prepare oracle question slots) = true
+makes_act (Balance holder key) = false
 makes_act Vault = false
 
 -- an account is a number of 16 bits
@@ -24,10 +27,12 @@ is_amount n = nat_le 1 n && nat_le n MAX_AMOUNT
 abbrev pub in_ranges : Command → Bool
 in_ranges (Deposit to amount) = is_account to && is_amount amount
 in_ranges (Prepare oracle question slots) = is_account oracle && (nat_le question MAX_QUESTION && (nat_le MIN_SLOTS slots && nat_le slots MAX_SLOTS))
+in_ranges (Balance holder key) = is_account holder && list_all (λ p. is_condition p.0) key
 in_ranges Vault = true
 
--- whether the command has a form that is carried out so far: conditions of two slots
+-- whether the command has a form that is carried out so far: conditions of two slots, keys of at most one condition
 abbrev pub is_built : Command → Bool
 is_built (Deposit to amount) = true
 is_built (Prepare oracle question slots) = slots == 2
+is_built (Balance holder key) = is_simple key
 is_built Vault = true

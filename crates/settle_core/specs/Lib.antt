@@ -4,6 +4,7 @@ pub mod Clock
 pub mod Command
 pub mod Holdings
 pub mod Kept
+pub mod Keys
 pub mod Legal
 pub mod Limits
 pub mod Planned

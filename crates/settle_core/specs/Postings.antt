@@ -2,16 +2,10 @@
 -- Source: Gnosis Conditional Tokens, developer documentation.
 use Rattle.std.specs.Prelude.{◌==◌, ℕ, ◌-◌, ◌&&◌, Bool, true, false, List, [], ◌∷◌, sum_by, if◌then◌else◌}
 use Rattle.settle_core.specs.declared.command_words.command.Command.{Command}
-use Rattle.settle_core.specs.declared.command_words.command.Command.TheVariants.{Deposit, Prepare, Vault}
+use Rattle.settle_core.specs.declared.command_words.command.Command.TheVariants.{Deposit, Prepare, Balance, Vault}
 use Rattle.settle_core.specs.declared.command_words.act.Act.{Act}
-use Rattle.settle_core.specs.Book.{Collection, Posting, postings}
-
--- whether two collections are the same
-abbrev pub same_collection : Collection → Collection → Bool
-same_collection [] [] = true
-same_collection [] (q ∷ qs) = false
-same_collection (p ∷ ps) [] = false
-same_collection (p ∷ ps) (q ∷ qs) = ((p.0 == q.0) && (p.1 == q.1)) && same_collection ps qs
+use Rattle.settle_core.specs.Book.{Posting, postings}
+use Rattle.settle_core.specs.Keys.{Collection, same_collection}
 
 -- what a posting pays to a collection and takes from it, whoever holds it
 abbrev pub paid_to : Collection → Posting → ℕ
@@ -39,6 +33,7 @@ balance history a k = sum_by (paid_to_account a k) (postings history) - sum_by (
 abbrev pub deposit_of : Command → ℕ
 deposit_of (Deposit to amount) = amount
 deposit_of (Prepare oracle question slots) = 0
+deposit_of (Balance holder key) = 0
 deposit_of Vault = 0
 
 -- what the vault holds: all that was paid in; nothing is paid out

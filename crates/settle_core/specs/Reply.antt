@@ -1,22 +1,23 @@
 -- The replies, and what the history is after them.
 use Rattle.std.specs.Prelude.{◌≡◌, ℕ, ◌+◌, ◌≤◌, Bool, true, false, MatchBool, if◌then◌else◌, List, [], ◌∷◌, ◌++◌, length, Option, Some, None, ⊤}
 use Rattle.settle_core.specs.declared.command_words.command.Command.{Command}
-use Rattle.settle_core.specs.declared.command_words.command.Command.TheVariants.{Deposit, Prepare, Vault}
+use Rattle.settle_core.specs.declared.command_words.command.Command.TheVariants.{Deposit, Prepare, Balance, Vault}
 use Rattle.settle_core.specs.declared.command_words.act.Act.{Act}
 use Rattle.settle_core.specs.declared.command_words.refusal.Refusal.{Refusal}
-use Rattle.settle_core.specs.declared.command_words.refusal.Refusal.TheVariants.{NotAllowed, AlreadyPrepared, TableFull, VaultLimit, HistoryFull, Memory}
+use Rattle.settle_core.specs.declared.command_words.refusal.Refusal.TheVariants.{NotAllowed, NoCondition, AlreadyPrepared, TableFull, VaultLimit, HistoryFull, Memory}
 use Rattle.settle_core.specs.declared.command_words.reply.Reply.{Reply}
-use Rattle.settle_core.specs.declared.command_words.reply.Reply.TheVariants.{Done, Prepared, Vaulted, Refused, Bad}
+use Rattle.settle_core.specs.declared.command_words.reply.Reply.TheVariants.{Done, Prepared, Balanced, Vaulted, Refused, Bad}
 use Rattle.settle_core.specs.declared.limits.TheConstants.{MAX_HISTORY}
 use Rattle.settle_core.specs.Command.{makes_act}
 use Rattle.settle_core.specs.Book.{conditions}
-use Rattle.settle_core.specs.Postings.{vault}
+use Rattle.settle_core.specs.Postings.{vault, balance}
 use Rattle.settle_core.specs.Verdict.{Question, verdict}
 
 -- the reply to an accepted command, over the acts before it
 abbrev pub accepted_reply : List Act → Command → Reply
 accepted_reply history (Deposit to amount) = Done (length history)
 accepted_reply history (Prepare oracle question slots) = Prepared (length (conditions history)) (length history)
+accepted_reply history (Balance holder key) = Balanced (balance history holder key) (length history)
 accepted_reply history Vault = Vaulted (length history) (vault history)
 
 abbrev pub reply_by : Option Refusal → Question → Reply
@@ -46,6 +47,7 @@ no_memory = Refused Memory 0
 abbrev pub is_no_memory_refusal : Refusal → Bool
 is_no_memory_refusal Memory = true
 is_no_memory_refusal NotAllowed = false
+is_no_memory_refusal NoCondition = false
 is_no_memory_refusal AlreadyPrepared = false
 is_no_memory_refusal TableFull = false
 is_no_memory_refusal (VaultLimit vault) = false
@@ -56,6 +58,7 @@ abbrev pub is_no_memory : Reply → Bool
 is_no_memory (Refused refusal rests) = is_no_memory_refusal refusal
 is_no_memory (Done lsn) = false
 is_no_memory (Prepared condition lsn) = false
+is_no_memory (Balanced amount rests) = false
 is_no_memory (Vaulted rests vault) = false
 is_no_memory (Bad fault) = false
 
@@ -68,6 +71,7 @@ Answered q reply after =
 abbrev pub rests_of : Reply → ℕ
 rests_of (Done lsn) = lsn + 1
 rests_of (Prepared condition lsn) = lsn + 1
+rests_of (Balanced amount rests) = rests
 rests_of (Vaulted rests vault) = rests
 rests_of (Refused refusal rests) = rests
 rests_of (Bad fault) = 0
@@ -76,6 +80,7 @@ rests_of (Bad fault) = 0
 abbrev pub IsSound : Reply → Type 0
 IsSound (Done lsn) = lsn ≤ MAX_HISTORY
 IsSound (Prepared condition lsn) = lsn ≤ MAX_HISTORY
+IsSound (Balanced amount rests) = rests ≤ MAX_HISTORY
 IsSound (Vaulted rests vault) = rests ≤ MAX_HISTORY
 IsSound (Refused refusal rests) = rests ≤ MAX_HISTORY
 IsSound (Bad fault) = ⊤

@@ -1,12 +1,13 @@
 -- The verdict on a command: the refusal with the lowest number whose condition holds, or none.
 use Rattle.std.specs.Prelude.{◌==◌, ℕ, ◌+◌, ◌&&◌, Bool, false, not, nat_lt, nat_le, if◌then◌else◌, List, [], ◌∷◌, length, Option, Some, None, Contains, is_some, Result, Ok, Err, ◌≡◌, ⊤}
+use Rattle.std.specs.List.{list_any}
 use Rattle.condition_sets.specs.declared.amount.TheConstants.{MAX_AMOUNT}
 use Rattle.condition_sets.specs.declared.names.TheConstants.{OPERATOR, EXCHANGE}
 use Rattle.settle_core.specs.declared.command_words.command.Command.{Command}
-use Rattle.settle_core.specs.declared.command_words.command.Command.TheVariants.{Deposit, Prepare, Vault}
+use Rattle.settle_core.specs.declared.command_words.command.Command.TheVariants.{Deposit, Prepare, Balance, Vault}
 use Rattle.settle_core.specs.declared.command_words.act.Act.{Act}
 use Rattle.settle_core.specs.declared.command_words.refusal.Refusal.{Refusal}
-use Rattle.settle_core.specs.declared.command_words.refusal.Refusal.TheVariants.{NotAllowed, AlreadyPrepared, TableFull, VaultLimit, HistoryFull, Memory}
+use Rattle.settle_core.specs.declared.command_words.refusal.Refusal.TheVariants.{NotAllowed, NoCondition, AlreadyPrepared, TableFull, VaultLimit, HistoryFull, Memory}
 use Rattle.settle_core.specs.declared.condition_table.facts.Facts.{Facts}
 use Rattle.settle_core.specs.Book.{conditions}
 use Rattle.settle_core.specs.Bounds.{Bounds}
@@ -35,15 +36,27 @@ where_ holds refusal = if holds then Some refusal else None
 abbrev pub may_ask : ℕ → Command → Bool
 may_ask account (Deposit to amount) = (account == OPERATOR) && not (to == EXCHANGE)
 may_ask account (Prepare oracle question slots) = not (account == EXCHANGE) && not (oracle == EXCHANGE)
+may_ask account (Balance holder key) = not (account == EXCHANGE)
 may_ask account Vault = not (account == EXCHANGE)
 
 abbrev pub not_allowed : Question → Option Refusal
 not_allowed q = where_ (not (may_ask q.account q.command)) NotAllowed
 
+-- a condition that the command names isn't prepared
+abbrev pub names_none : List Facts → Command → Bool
+names_none prepared (Deposit to amount) = false
+names_none prepared (Prepare oracle question slots) = false
+names_none prepared (Balance holder key) = list_any (λ p. nat_le (length prepared) p.0) key
+names_none prepared Vault = false
+
+abbrev pub no_condition : Question → Option Refusal
+no_condition q = where_ (names_none (conditions q.history) q.command) NoCondition
+
 -- the condition is prepared already: the same oracle, question and number of slots
 abbrev pub prepares_again : List Facts → Command → Bool
 prepares_again prepared (Deposit to amount) = false
 prepares_again prepared (Prepare oracle question slots) = is_some (place_of (record { oracle = oracle; question = question; slots = slots }) prepared)
+prepares_again prepared (Balance holder key) = false
 prepares_again prepared Vault = false
 
 abbrev pub already_prepared : Question → Option Refusal
@@ -53,6 +66,7 @@ already_prepared q = where_ (prepares_again (conditions q.history) q.command) Al
 abbrev pub is_above_table : ℕ → List Facts → Command → Bool
 is_above_table most prepared (Deposit to amount) = false
 is_above_table most prepared (Prepare oracle question slots) = nat_le most (length prepared)
+is_above_table most prepared (Balance holder key) = false
 is_above_table most prepared Vault = false
 
 abbrev pub table_full : Question → Option Refusal
@@ -62,6 +76,7 @@ table_full q = where_ (is_above_table q.limits.conditions (conditions q.history)
 abbrev pub is_above_vault : ℕ → Command → Bool
 is_above_vault held (Deposit to amount) = nat_lt MAX_AMOUNT (held + amount)
 is_above_vault held (Prepare oracle question slots) = false
+is_above_vault held (Balance holder key) = false
 is_above_vault held Vault = false
 
 abbrev pub vault_limit : Question → Option Refusal
@@ -72,7 +87,7 @@ history_full q = where_ (makes_act q.command && nat_le q.limits.history (length 
 
 -- every refusal whose condition holds, in the order of their numbers
 abbrev pub refusals : Question → List (Option Refusal)
-refusals q = not_allowed q ∷ already_prepared q ∷ table_full q ∷ vault_limit q ∷ history_full q ∷ []
+refusals q = not_allowed q ∷ no_condition q ∷ already_prepared q ∷ table_full q ∷ vault_limit q ∷ history_full q ∷ []
 
 -- the condition of the refusal holds
 abbrev pub Applies : Question → Refusal → Type 0

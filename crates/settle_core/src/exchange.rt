@@ -4,8 +4,11 @@ ghost use Rattle.condition_sets.specs.declared.amount.TheConstants.{MAX_AMOUNT};
 ghost use Rattle.condition_sets.specs.declared.slot_count.TheConstants.{MIN_SLOTS, MAX_SLOTS};
 ghost use Rattle.settle_core.specs.Command.{makes_act, in_ranges, is_built};
 ghost use Rattle.settle_core.specs.Book.{conditions, prepared_after};
+ghost use Rattle.settle_core.specs.Holdings.{amount_at, held_after, deposit_fits};
+ghost use Rattle.settle_core.specs.Keys.{Collection};
 ghost use Rattle.settle_core.specs.Legal.{IsLegal};
-ghost use Rattle.settle_core.specs.Postings.{vault, deposit_of};
+ghost use Rattle.std.specs.List.{list_any};
+ghost use Rattle.settle_core.specs.Postings.{vault, balance, deposit_of};
 ghost use Rattle.settle_core.specs.Reply.{act_of, accepted_reply, reply_to, IsSound};
 ghost use Rattle.settle_core.specs.State.{State, asked, IsSame, IsPlanFor};
 ghost use Rattle.settle_core.specs.Verdict.{verdict, prepares_again, is_above_table, AnsweredBy};
@@ -16,7 +19,7 @@ use crate::ledger_book::Ledger;
 use crate::limits::Limits;
 use crate::plan::Plan;
 use condition_sets::{
-    AccountId, ConditionId, EXCHANGE, ListOf, MAX_AMOUNT, NoMemory, OPERATOR, SlotCount,
+    AccountId, ConditionId, EXCHANGE, ListOf, MAX_AMOUNT, NoMemory, OPERATOR, Pairs, SlotCount,
 };
 use std::alloc::Global;
 use std::marker::Model;
@@ -41,9 +44,9 @@ impl Model for Exchange {
 
     ghost use Rattle.settle_core.specs.Kept.{IsKept};
 
-    ghost view = { λ e. record { limits = e.limits; history = e.history.items; room = min (vec_capacity e.history - vec_len e.history) e.conditions.room } };
+    ghost view = { λ e. record { limits = e.limits; history = e.history.items; room = min (vec_capacity e.history - vec_len e.history) (min e.conditions.room e.ledger.room) } };
 
-    ghost invariant = { λ e. IsKept e.limits e.conditions e.ledger.vault e.history.items };
+    ghost invariant = { λ e. IsKept e.limits e.conditions e.ledger e.history.items };
 }
 
 impl Exchange {
@@ -58,7 +61,7 @@ impl Exchange {
             alloc,
             limits,
             conditions: Conditions::new(alloc, limits.conditions())?,
-            ledger: Ledger::new(),
+            ledger: Ledger::new(alloc),
             history: Vec::new(alloc),
         })
     }
@@ -87,6 +90,7 @@ impl Exchange {
         let copy = act.copy(self.alloc)?;
         self.history.reserve(1)?;
         self.conditions.reserve(1)?;
+        self.ledger.reserve(1)?;
         let reply = self.accepted_reply(command);
         Ok(Plan::new(act, copy, reply))
     }
@@ -103,7 +107,8 @@ impl Exchange {
         ensures room { self.old.room ≤ self.new.room + 1 }
     {
         let (act, reply) = plan.into_parts();
-        enter(&mut self.conditions, &mut self.ledger, &act.command);
+        prepare_for(&mut self.conditions, &act.command);
+        pay_for(self.alloc, &mut self.ledger, &act.command);
         self.history.push_reserved(act);
         reply
     }
@@ -142,6 +147,15 @@ impl Exchange {
         match command {
             Command::Deposit { .. } => unreachable!(),
             Command::Prepare { .. } => unreachable!(),
+            Command::Balance { of, key } => {
+                if let Some(refusal) = self.refusal_of_balance(account, *of, key, 0) {
+                    return Err(refusal);
+                }
+                Ok(Reply::Balanced {
+                    amount: self.ledger.balance(*of, key),
+                    rests: self.history.len() as u64,
+                })
+            }
             Command::Vault => {
                 if let Some(refusal) = self.refusal_of_vault(account, 0) {
                     return Err(refusal);
@@ -164,7 +178,8 @@ impl Exchange {
 
     /// The ledger of the history.
     pub fn ledger(&self) -> &Ledger
-        ensures { result.now.vault ≡ vault self.now.history }
+        ensures vault { result.now.vault ≡ vault self.now.history }
+        ensures balances { (a : ℕ) (k : Collection) → amount_at result.now a k ≡ balance self.now.history a k }
     {
         &self.ledger
     }
@@ -198,6 +213,7 @@ impl Exchange {
                 question,
                 slots,
             } => self.refusal_of_prepare(account, *oracle, *question, *slots, now),
+            Command::Balance { of, key } => self.refusal_of_balance(account, *of, key, now),
             Command::Vault => self.refusal_of_vault(account, now),
         }
     }
@@ -257,6 +273,25 @@ impl Exchange {
     }
 
     #[tactic(auto, unfolding(crate::specs::Verdict::verdict))]
+    fn refusal_of_balance(
+        &self,
+        account: AccountId,
+        of: AccountId,
+        key: &Pairs,
+        now: u64,
+    ) -> Option<Refusal>
+        ensures { result ≡ verdict (asked self.now account (Command.Balance of key.now) now) }
+    {
+        if account.get() == EXCHANGE {
+            return Some(Refusal::NotAllowed);
+        }
+        if names_none(self.conditions.len(), key.as_slice()) {
+            return Some(Refusal::NoCondition);
+        }
+        None
+    }
+
+    #[tactic(auto, unfolding(crate::specs::Verdict::verdict))]
     fn refusal_of_vault(&self, account: AccountId, now: u64) -> Option<Refusal>
         ensures { result ≡ verdict (asked self.now account Command.Vault now) }
     {
@@ -286,26 +321,31 @@ impl Exchange {
                 Some(condition) => Reply::Prepared { condition, lsn },
                 None => unreachable!(),
             },
+            Command::Balance { .. } => unreachable!(),
             Command::Vault => unreachable!(),
         }
     }
 }
 
-/// Enters what an accepted command does: the condition that it prepares, and what it pays.
-fn enter(conditions: &mut Conditions, ledger: &mut Ledger, command: &Command)
-    requires vault { ledger.old.vault + deposit_of command.now ≤ MAX_AMOUNT }
+/// Whether a pair of the key names a condition past the last.
+fn names_none(prepared: u16, key: &[(u16, u32)]) -> bool
+    ensures { result ≡ list_any (λ p. nat_le prepared p.0) key.now }
+{
+    key.iter().any(|pair| prepared <= pair.0)
+}
+
+/// Prepares the condition that an accepted command prepares.
+fn prepare_for(conditions: &mut Conditions, command: &Command)
     requires ranges { in_ranges command.now ≡ true }
     requires new { prepares_again conditions.old.facts command.now ≡ false }
     requires within { is_above_table conditions.old.limit conditions.old.facts command.now ≡ false }
     requires room { 0 < conditions.old.room }
 
-    ensures vault { ledger.new.vault ≡ ledger.old.vault + deposit_of command.now }
     ensures conditions { conditions.new.facts ≡ prepared_after command.now conditions.old.facts }
     ensures limit { conditions.new.limit ≡ conditions.old.limit }
     ensures room { conditions.old.room ≤ conditions.new.room + 1 }
 {
     match command {
-        Command::Deposit { to: _, amount } => ledger.pay_in(*amount),
         Command::Prepare {
             oracle,
             question,
@@ -316,6 +356,29 @@ fn enter(conditions: &mut Conditions, ledger: &mut Ledger, command: &Command)
             }
             None => unreachable!(),
         },
+        Command::Deposit { .. } => {}
+        Command::Balance { .. } => {}
+        Command::Vault => {}
+    }
+}
+
+/// Pays what an accepted command pays.
+fn pay_for(alloc: Global, ledger: &mut Ledger, command: &Command)
+    requires vault { ledger.old.vault + deposit_of command.now ≤ MAX_AMOUNT }
+    requires fits { deposit_fits command.now ledger.old.balances }
+    requires room { 0 < ledger.old.room }
+
+    ensures vault { ledger.new.vault ≡ ledger.old.vault + deposit_of command.now }
+    ensures balances { ledger.new.balances ≡ held_after command.now ledger.old.balances }
+    ensures room { ledger.old.room ≤ ledger.new.room + 1 }
+{
+    match command {
+        Command::Deposit { to, amount } => {
+            ledger.pay_in(*amount);
+            ledger.credit(*to, Pairs::new(alloc), *amount);
+        }
+        Command::Prepare { .. } => {}
+        Command::Balance { .. } => {}
         Command::Vault => {}
     }
 }

@@ -3,7 +3,7 @@
 ghost use Rattle.std.specs.Prelude.{◌≡◌, ℕ, ◌≤◌, List, Option, Some, None, Contains};
 ghost use Rattle.settle_core.specs.declared.command_words.act.Act.{Act};
 ghost use Rattle.settle_core.specs.declared.command_words.refusal.Refusal.{Refusal};
-ghost use Rattle.settle_core.specs.Book.{root};
+ghost use Rattle.settle_core.specs.Keys.{root};
 ghost use Rattle.settle_core.specs.Postings.{supply, vault};
 ghost use Rattle.settle_core.specs.Refusal.{code_of};
 ghost use Rattle.settle_core.specs.Verdict.{Question, Applies, refusals, verdict};

@@ -1,5 +1,5 @@
 use super::*;
-use condition_sets::{AccountId, ConditionId, NoMemory};
+use condition_sets::{AccountId, ConditionId, NoMemory, Pairs};
 use std::alloc::Global;
 use std::process::Abort;
 use std::test::Fail;
@@ -23,6 +23,13 @@ fn prepare(oracle: u16, question: u64) -> Command {
         question,
         slots: 2,
     }
+}
+
+fn balance(alloc: Global, of: u16, pairs: &[(u16, u32)]) -> Result<Command, Fail> {
+    Ok(Command::Balance {
+        of: AccountId(of),
+        key: Pairs::of(Vec::from_slice(alloc, pairs)?),
+    })
 }
 
 /// Takes the steps on an exchange that begins empty, each at moment 7.
@@ -55,7 +62,7 @@ fn is_deposit(act: &Act, moment: u64, to: u16, amount: u64) -> bool {
             to: given_to,
             amount: given,
         } => given_to.get() == to && *given == amount,
-        Command::Prepare { .. } | Command::Vault => false,
+        Command::Prepare { .. } | Command::Balance { .. } | Command::Vault => false,
     };
     act.moment == moment && act.account.get() == 0 && same_command
 }
@@ -108,6 +115,100 @@ fn conditions(rt: HostRuntime) -> Result<(), Fail> {
         let condition = ConditionId::new(number).ok_or("no condition")?;
         let facts = exchange.conditions().get(condition);
         assert_eq!(rt; facts.map(|facts| facts.question), question);
+    }
+    Ok(())
+}
+
+/// Asks who holds how much of which collection, as (asking, of, pairs, answer), which changes nothing.
+fn ask(
+    rt: &(impl Abort + AllocGlobal),
+    exchange: &Exchange,
+    cases: &[(u16, u16, &[(u16, u32)], &str)],
+) -> Result<(), Fail> {
+    for (account, of, pairs, expected) in cases {
+        let command = balance(rt.alloc(), *of, pairs)?;
+        assert!(rt; !command.makes_act());
+        let answer = exchange.read(AccountId(*account), &command);
+        let text = format!(in rt.alloc(); "{answer:?}")?;
+        assert_eq!(rt; text.as_str(), *expected, "{command:?}");
+    }
+    Ok(())
+}
+
+#[test]
+fn balances(rt: HostRuntime) -> Result<(), Fail> {
+    let steps = [
+        (0, deposit(2, 100), "Ok(Done { lsn: 0 })", 1, 100),
+        (0, deposit(3, 50), "Ok(Done { lsn: 1 })", 2, 150),
+        (0, deposit(2, 30), "Ok(Done { lsn: 2 })", 3, 180),
+    ];
+    let exchange = play(&rt, Limits::standard(), &steps)?;
+    let root = [].as_slice();
+    let cases = [
+        (2, 2, root, "Ok(Balanced { amount: 130, rests: 3 })"),
+        (2, 3, root, "Ok(Balanced { amount: 50, rests: 3 })"),
+        (3, 4, root, "Ok(Balanced { amount: 0, rests: 3 })"),
+        (1, 2, root, "Err(NotAllowed)"),
+    ];
+    ask(&rt, &exchange, &cases)
+}
+
+#[test]
+fn balances_of_conditions(rt: HostRuntime) -> Result<(), Fail> {
+    let deposited = [(0, deposit(2, 100), "Ok(Done { lsn: 0 })", 1, 100)];
+    let mut exchange = play(&rt, Limits::standard(), &deposited)?;
+    let cases = [
+        (2, 2, [(0, 1)].as_slice(), "Err(NoCondition)"),
+        (1, 2, [(0, 1)].as_slice(), "Err(NotAllowed)"),
+        (
+            2,
+            2,
+            [].as_slice(),
+            "Ok(Balanced { amount: 100, rests: 1 })",
+        ),
+    ];
+    ask(&rt, &exchange, &cases)?;
+    assert_eq!(rt; exchange.history().len(), 1);
+    assert_eq!(rt; exchange.ledger().vault(), 100);
+    assert_eq!(rt; exchange.conditions().len(), 0);
+
+    let command = prepare(3, 7);
+    assert!(rt; command.makes_act());
+    assert!(rt; command.in_ranges());
+    assert!(rt; command.is_built());
+    let reply = exchange.submit(AccountId(2), &command, 7)?;
+    assert!(rt; matches!(reply, Reply::Prepared { lsn: 1, .. }));
+    let nothing = "Ok(Balanced { amount: 0, rests: 2 })";
+    let cases = [
+        (2, 2, [(0, 1)].as_slice(), nothing),
+        (2, 2, [(0, 2)].as_slice(), nothing),
+        (2, 2, [(1, 1)].as_slice(), "Err(NoCondition)"),
+        (
+            2,
+            2,
+            [].as_slice(),
+            "Ok(Balanced { amount: 100, rests: 2 })",
+        ),
+    ];
+    ask(&rt, &exchange, &cases)
+}
+
+#[test]
+fn keys(rt: HostRuntime) -> Result<(), Fail> {
+    let alloc = rt.alloc();
+    for (pairs, in_ranges, is_built) in [
+        ([].as_slice(), true, true),
+        ([(0, 1)].as_slice(), true, true),
+        ([(4_095, 2)].as_slice(), true, true),
+        ([(4_096, 2)].as_slice(), false, true),
+        ([(0, 0)].as_slice(), true, false),
+        ([(0, 3)].as_slice(), true, false),
+        ([(0, 1), (1, 1)].as_slice(), true, false),
+    ] {
+        let copy = balance(alloc, 2, pairs)?.copy(alloc)?;
+        assert_eq!(rt; copy.in_ranges(), in_ranges, "{copy:?}");
+        assert_eq!(rt; copy.is_built(), is_built, "{copy:?}");
+        assert!(rt; !copy.makes_act());
     }
     Ok(())
 }
@@ -239,6 +340,7 @@ fn plans_and_the_end(rt: HostRuntime) -> Result<(), Fail> {
 fn codes_and_rests(rt: HostRuntime) -> Result<(), Fail> {
     for (refusal, code) in [
         (Refusal::NotAllowed, 5),
+        (Refusal::NoCondition, 6),
         (Refusal::AlreadyPrepared, 7),
         (Refusal::TableFull, 8),
         (Refusal::VaultLimit { vault: 9 }, 32),
@@ -255,10 +357,15 @@ fn codes_and_rests(rt: HostRuntime) -> Result<(), Fail> {
     let rests = [
         Reply::Prepared { condition, lsn: 3 }.rests(),
         Reply::Done { lsn: 4 }.rests(),
+        Reply::Balanced {
+            amount: 9,
+            rests: 8,
+        }
+        .rests(),
         Reply::Vaulted { rests: 6, vault: 9 }.rests(),
         Reply::Refused { refusal, rests: 7 }.rests(),
         Reply::Bad { fault }.rests(),
     ];
-    assert_eq!(rt; rests, [4, 5, 6, 7, 0]);
+    assert_eq!(rt; rests, [4, 5, 8, 6, 7, 0]);
     Ok(())
 }

@@ -1,13 +1,15 @@
 ghost use Rattle.std.specs.Prelude.{◌≡◌, if◌then◌else◌, Some, None, true, IfOk, codes, option_and_then, option_map};
-ghost use Rattle.serde_json.specs.View.{view};
+ghost use Rattle.serde_json.specs.View.{view, items_view};
+ghost use Rattle.serde_json.specs.Find.{get, as_array};
 ghost use Rattle.settle_core.specs.Command.{is_account, in_ranges, is_built};
-ghost use Rattle.exchange_top.specs.Json.{number_at, text_at, member_count};
-ghost use Rattle.exchange_top.specs.Ranged.{ranged_account, ranged_command};
-ghost use Rattle.exchange_top.specs.CommandText.{deposit_in, prepare_in, command_in};
-ghost use Rattle.exchange_top.specs.Request.{request, ReadAs, request_in, ranged};
+ghost use Rattle.settle_core.specs.declared.command_words.command.Command.TheVariants.{Balance};
+ghost use Rattle.exchange_top.specs.Json.{number_at, text_at, pair_in, member_count};
+ghost use Rattle.exchange_top.specs.Ranged.{ranged_account, ranged_pair, ranged_command};
+ghost use Rattle.exchange_top.specs.CommandText.{deposit_in, prepare_in, balance_in, command_in};
+ghost use Rattle.exchange_top.specs.Request.{request, ReadAs, request_in, request_by, ranged};
 
 use crate::wire_json::request::Request;
-use condition_sets::AccountId;
+use condition_sets::{AccountId, NoMemory, Pairs};
 use serde_json::{Category, Value};
 use settle_core::{Command, LineFault};
 use std::alloc::Global;
@@ -28,38 +30,51 @@ pub fn read_line(alloc: Global, line: &[u8]) -> Result<Request, LineFault>
             };
         }
     };
-    match request_in(&value) {
-        Some(request) => Ok(request),
-        None => Err(LineFault::NotCommand),
+    match request_in(alloc, &value) {
+        Ok(Some(request)) => Ok(request),
+        Ok(None) => Err(LineFault::NotCommand),
+        Err(NoMemory) => Err(LineFault::Memory),
     }
 }
 
 /// The request that a JSON value has the form of, where each number is in its range.
-fn request_in(value: &Value) -> Option<Request>
-    ensures { result ≡ ranged (request_in (view value.now)) }
+fn request_in(alloc: Global, value: &Value) -> Result<Option<Request>, NoMemory>
+    ensures { IfOk result (λ request. request ≡ ranged (request_in (view value.now))) }
 {
-    let name = text_at(value, "do")?;
-    let account = number_at(value, "by")?;
-    let command = command_in(value, name)?;
+    let (Some(name), Some(account)) = (text_at(value, "do"), number_at(value, "by")) else {
+        return Ok(None);
+    };
+    let command = command_in(alloc, value, name)?;
+    Ok(asked_by(account, command))
+}
+
+/// The request of a command, where the account that asks is one.
+fn asked_by(account: u64, command: Option<Command>) -> Option<Request>
+    ensures { result ≡ option_and_then (λ a. option_map (request_by a) command) (ranged_account account) }
+{
     let account = account_of(account)?;
+    let command = command?;
     Some(Request { account, command })
 }
 
 /// The command of this name, where each number is in its range.
-fn command_in(value: &Value, name: &str) -> Option<Command>
-    ensures { result ≡ ranged_command (command_in name.now (view value.now)) }
+fn command_in(alloc: Global, value: &Value, name: &str) -> Result<Option<Command>, NoMemory>
+    ensures { IfOk result (λ command. command ≡ ranged_command (command_in name.now (view value.now))) }
 {
     let members = member_count(value);
     if name == "deposit" && members == 4 {
-        return deposit_in(value);
+        return Ok(deposit_in(value));
     }
     if name == "prepare" && members == 5 {
-        return prepare_in(value);
+        return Ok(prepare_in(value));
+    }
+    if name == "balance" && members == 4 {
+        return balance_in(alloc, value);
     }
     if name == "vault" && members == 2 {
-        return Some(Command::Vault);
+        return Ok(Some(Command::Vault));
     }
-    None
+    Ok(None)
 }
 
 fn deposit_in(value: &Value) -> Option<Command>
@@ -85,6 +100,64 @@ fn prepare_in(value: &Value) -> Option<Command>
             slots,
         }),
         Err(_) => None,
+    }
+}
+
+fn balance_in(alloc: Global, value: &Value) -> Result<Option<Command>, NoMemory>
+    ensures { IfOk result (λ command. command ≡ ranged_command (balance_in (view value.now))) }
+{
+    let (Some(of), Some(key)) = (number_at(value, "of"), items_at(value, "key")) else {
+        return Ok(None);
+    };
+    let mut pairs = Pairs::new(alloc);
+    match key {
+        [] => Ok(balance_of(of, pairs)),
+        [pair] => match pair_in(pair) {
+            Some(pair) => {
+                pairs.push(pair)?;
+                Ok(balance_of(of, pairs))
+            }
+            None => Ok(None),
+        },
+        _ => Ok(None),
+    }
+}
+
+fn balance_of(of: u64, key: Pairs) -> Option<Command>
+    ensures { result ≡ ranged_command (Some (Balance of key)) }
+{
+    let of = account_of(of)?;
+    kept(Command::Balance { of, key })
+}
+
+/// A list of two whole numbers, where they are of 16 and 32 bits.
+fn pair_in(value: &Value) -> Option<(u16, u32)>
+    ensures { result ≡ ranged_pair (pair_in (view value.now)) }
+{
+    let items = value.as_array()?;
+    match items.as_slice() {
+        [condition, bits] => {
+            let condition = condition.as_u64()?;
+            let bits = bits.as_u64()?;
+            match (u16::try_from(condition), u32::try_from(bits)) {
+                (Ok(condition), Ok(bits)) => Some((condition, bits)),
+                _ => None,
+            }
+        }
+        _ => None,
+    }
+}
+
+/// The items of the member of this name, where it is a list.
+fn items_at<'v>(value: &'v Value, name: &str) -> Option<&'v [Value]>
+    ensures { option_map (λ items. items_view items.now) result ≡ option_and_then as_array (get name.now (view value.now)) }
+{
+    match value.get(name) {
+        Some(member) => match member.as_array() {
+            Some(items) => Some(items.as_slice()),
+            None => None,
+        },
+        None => None,
     }
 }
 

@@ -23,6 +23,13 @@ pub fn write_reply(reply: &Reply, into: &mut Text)
             into.push_number(*lsn);
             into.push(b"}\n");
         }
+        Reply::Balanced { amount, rests } => {
+            into.push(b"{\"amount\":");
+            into.push_number(*amount);
+            into.push(b",\"rests\":");
+            into.push_number(*rests);
+            into.push(b"}\n");
+        }
         Reply::Vaulted { rests, vault } => {
             into.push(b"{\"rests\":");
             into.push_number(*rests);
@@ -42,6 +49,11 @@ fn write_refusal(refusal: Refusal, rests: u64, into: &mut Text)
     match refusal {
         Refusal::NotAllowed => {
             into.push(b"{\"code\":5,\"error\":\"NotAllowed\",\"rests\":");
+            into.push_number(rests);
+            into.push(b"}\n");
+        }
+        Refusal::NoCondition => {
+            into.push(b"{\"code\":6,\"error\":\"NoCondition\",\"rests\":");
             into.push_number(rests);
             into.push(b"}\n");
         }

@@ -1,6 +1,8 @@
 ghost use Rattle.std.specs.Prelude.{◌≡◌, IfOk};
+ghost use Rattle.settle_core.specs.Keys.{is_condition, is_simple};
+ghost use Rattle.std.specs.List.{list_all};
 
-use condition_sets::{AccountId, MAX_AMOUNT, MAX_SLOTS, MIN_SLOTS, NoMemory};
+use condition_sets::{AccountId, MAX_AMOUNT, MAX_CONDITION, MAX_SLOTS, MIN_SLOTS, NoMemory, Pairs};
 use std::alloc::Global;
 
 /// The greatest number of a question.
@@ -20,6 +22,11 @@ pub enum Command {
         question: u64,
         slots: u8,
     },
+    /// Asks what the account `of` holds of a collection: pairs of a condition and the bits of an index set.
+    Balance {
+        of: AccountId,
+        key: Pairs,
+    },
     /// Asks what the vault holds.
     Vault,
 }
@@ -34,6 +41,7 @@ impl Command {
         match self {
             Command::Deposit { .. } => true,
             Command::Prepare { .. } => true,
+            Command::Balance { .. } => false,
             Command::Vault => false,
         }
     }
@@ -56,23 +64,29 @@ impl Command {
                 let _number = oracle.get();
                 *question <= MAX_QUESTION && *slots >= MIN_SLOTS && *slots <= MAX_SLOTS
             }
+            Command::Balance { of, key } => {
+                let _number = of.get();
+                names_conditions(key.as_slice())
+            }
             Command::Vault => true,
         }
     }
 
-    /// Whether the command has a form that the exchange carries out so far: conditions of two slots.
+    /// Whether the command has a form that the exchange carries out so far: conditions of two slots, and
+    /// collections of at most one condition.
     pub fn is_built(&self) -> bool
         ensures { result ≡ is_built self.now }
     {
         match self {
             Command::Deposit { .. } => true,
             Command::Prepare { slots, .. } => *slots == 2,
+            Command::Balance { key, .. } => is_simple(key.as_slice()),
             Command::Vault => true,
         }
     }
 
     /// An equal command.
-    pub fn copy(&self, _alloc: Global) -> Result<Command, NoMemory>
+    pub fn copy(&self, alloc: Global) -> Result<Command, NoMemory>
         ensures { IfOk result (λ copy. copy ≡ self.now) }
     {
         match self {
@@ -89,7 +103,29 @@ impl Command {
                 question: *question,
                 slots: *slots,
             }),
+            Command::Balance { of, key } => Ok(Command::Balance {
+                of: *of,
+                key: key.copy(alloc)?,
+            }),
             Command::Vault => Ok(Command::Vault),
         }
+    }
+}
+
+/// Whether each pair of a key names a number that a condition may have.
+fn names_conditions(key: &[(u16, u32)]) -> bool
+    ensures { result ≡ list_all (λ p. is_condition p.0) key.now }
+{
+    key.iter().all(|pair| pair.0 <= MAX_CONDITION)
+}
+
+/// Whether a key is empty, or one set of one condition of two slots.
+fn is_simple(key: &[(u16, u32)]) -> bool
+    ensures { result ≡ is_simple key.now }
+{
+    match key {
+        [] => true,
+        [pair] => pair.1 == 1 || pair.1 == 2,
+        _ => false,
     }
 }

@@ -9,6 +9,8 @@ use std::alloc::AllocError;
 pub enum Refusal {
     /// The account may not ask this, or it names the exchange's own account.
     NotAllowed,
+    /// A condition that the command names isn't prepared.
+    NoCondition,
     /// The condition of this oracle, question and number of slots is prepared already.
     AlreadyPrepared,
     /// No condition more can be prepared.
@@ -30,6 +32,7 @@ impl Refusal {
     {
         match self {
             Refusal::NotAllowed => 5,
+            Refusal::NoCondition => 6,
             Refusal::AlreadyPrepared => 7,
             Refusal::TableFull => 8,
             Refusal::VaultLimit { .. } => 32,

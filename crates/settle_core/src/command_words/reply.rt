@@ -24,6 +24,8 @@ pub enum Reply {
     Done { lsn: u64 },
     /// The condition has the number `condition`, and the command is act `lsn` now.
     Prepared { condition: ConditionId, lsn: u64 },
+    /// The account holds `amount` of the collection.
+    Balanced { amount: u64, rests: u64 },
     /// The vault holds `vault` collateral units.
     Vaulted { rests: u64, vault: u64 },
     /// The exchange refuses the command.
@@ -43,6 +45,7 @@ impl Reply {
         match self {
             Reply::Done { lsn } => *lsn + 1,
             Reply::Prepared { condition: _, lsn } => *lsn + 1,
+            Reply::Balanced { amount: _, rests } => *rests,
             Reply::Vaulted { rests, vault: _ } => *rests,
             Reply::Refused { refusal: _, rests } => *rests,
             Reply::Bad { .. } => 0,

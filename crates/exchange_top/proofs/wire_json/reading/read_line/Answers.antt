@@ -7,16 +7,16 @@ use Rattle.exchange_top.proofs.wire_json.reading.read_line.Goals as goal
 pub returns-in_default-clause-request : goal.returns-in_default-clause-request
 returns-in_default-clause-request c = request-no_json c.args.line.now (c.in-Err.ensures.err (λ memory. c.in_default.not-Memory (c.classify.ensures.memory.1 memory)))
 
-pub returns-in-Some-clause-request : goal.returns-in-Some-clause-request
-returns-in-Some-clause-request c =
-    request-read c.args.line.now (view c.in-Ok.value) c.in-Ok.ensures.ok.0 c.in-Ok.ensures.ok.1 ∙ ap or_no_command (sym c.request_in.ensures ∙ c.in-Some.is)
+pub returns-in-Ok-Some-clause-request : goal.returns-in-Ok-Some-clause-request
+returns-in-Ok-Some-clause-request c =
+    request-read c.args.line.now (view c.in-Ok.value) c.in-Ok.ensures.ok.0 c.in-Ok.ensures.ok.1 ∙ ap or_no_command (sym c.in-Ok-Some.ensures ∙ c.in-Ok-Some.field-0-is)
 
-pub returns-clause-request : goal.returns-clause-request
-returns-clause-request c =
-    request-read c.args.line.now (view c.in-Ok.value) c.in-Ok.ensures.ok.0 c.in-Ok.ensures.ok.1 ∙ ap or_no_command (sym c.request_in.ensures ∙ c.in-None.is)
+pub returns-in-Ok-None-clause-request : goal.returns-in-Ok-None-clause-request
+returns-in-Ok-None-clause-request c =
+    request-read c.args.line.now (view c.in-Ok.value) c.in-Ok.ensures.ok.0 c.in-Ok.ensures.ok.1 ∙ ap or_no_command (sym c.in-Ok-None.ensures ∙ c.in-Ok-None.field-0-is)
 
-pub returns-in-Some-clause-ranges : goal.returns-in-Some-clause-ranges
-returns-in-Some-clause-ranges c = ranged-ranges (request_in (view c.in-Ok.value)) c.in-Some.request (sym c.request_in.ensures ∙ c.in-Some.is)
+pub returns-in-Ok-Some-clause-ranges : goal.returns-in-Ok-Some-clause-ranges
+returns-in-Ok-Some-clause-ranges c = ranged-ranges (request_in (view c.in-Ok.value)) c.in-Ok-Some.request (sym c.in-Ok-Some.ensures ∙ c.in-Ok-Some.field-0-is)
 
-pub returns-in-Some-clause-built : goal.returns-in-Some-clause-built
-returns-in-Some-clause-built c = ranged-built (request_in (view c.in-Ok.value)) c.in-Some.request (sym c.request_in.ensures ∙ c.in-Some.is)
+pub returns-in-Ok-Some-clause-built : goal.returns-in-Ok-Some-clause-built
+returns-in-Ok-Some-clause-built c = ranged-built (request_in (view c.in-Ok.value)) c.in-Ok-Some.request (sym c.in-Ok-Some.ensures ∙ c.in-Ok-Some.field-0-is)

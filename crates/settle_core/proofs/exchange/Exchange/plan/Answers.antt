@@ -1,4 +1,4 @@
-use Rattle.std.proofs.Common.{◌≡◌, List, false, sym, ◌∙◌, subst}
+use Rattle.std.proofs.Common.{◌≡◌, List, false, refl, sym, ◌∙◌, subst}
 use Rattle.settle_core.specs.declared.command_words.act.Act.{Act}
 use Rattle.settle_core.specs.Book.{conditions}
 use Rattle.settle_core.specs.State.{State, asked}
@@ -9,11 +9,15 @@ use Rattle.settle_core.proofs.exchange.Exchange.plan.Goals as goal
 
 pub invariant_of-self-in_err-reserve-2 : goal.invariant_of-self-in_err-reserve-2
 invariant_of-self-in_err-reserve-2 c =
-    kept-same c.self.inside.limits c.self.inside.conditions c.reserve-2.new.self c.self.inside.ledger.vault c.self.inside.history.items c.reserve.new.self.items c.self.invariant c.in_err-reserve-2.ensures.facts c.in_err-reserve-2.ensures.limit c.in_ok-reserve.ensures.items
+    kept-same c.self.inside.limits c.self.inside.conditions c.reserve-2.new.self c.self.inside.ledger c.self.inside.ledger c.self.inside.history.items c.reserve.new.self.items c.self.invariant c.in_err-reserve-2.ensures.facts c.in_err-reserve-2.ensures.limit refl refl c.in_ok-reserve.ensures.items
+
+pub invariant_of-self-in_err-reserve-3 : goal.invariant_of-self-in_err-reserve-3
+invariant_of-self-in_err-reserve-3 c =
+    kept-same c.self.inside.limits c.self.inside.conditions c.reserve-2.new.self c.self.inside.ledger c.reserve-3.new.self c.self.inside.history.items c.reserve.new.self.items c.self.invariant c.in_ok-reserve-2.ensures.facts c.in_ok-reserve-2.ensures.limit c.in_err-reserve-3.ensures.vault c.in_err-reserve-3.ensures.balances c.in_ok-reserve.ensures.items
 
 pub invariant_of-self-2 : goal.invariant_of-self-2
 invariant_of-self-2 c =
-    kept-same c.self.inside.limits c.self.inside.conditions c.reserve-2.new.self c.self.inside.ledger.vault c.self.inside.history.items c.reserve.new.self.items c.self.invariant c.in_ok-reserve-2.ensures.facts c.in_ok-reserve-2.ensures.limit c.in_ok-reserve.ensures.items
+    kept-same c.self.inside.limits c.self.inside.conditions c.reserve-2.new.self c.self.inside.ledger c.reserve-3.new.self c.self.inside.history.items c.reserve.new.self.items c.self.invariant c.in_ok-reserve-2.ensures.facts c.in_ok-reserve-2.ensures.limit c.in_ok-reserve-3.ensures.vault c.in_ok-reserve-3.ensures.balances c.in_ok-reserve.ensures.items
 
 pub accepted_reply-reply-requires-clause-fits : goal.accepted_reply-reply-requires-clause-fits
 accepted_reply-reply-requires-clause-fits c =
