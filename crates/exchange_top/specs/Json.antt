@@ -4,13 +4,13 @@ use Rattle.std.specs.Prelude.{ℕ, suc, List, [], ◌∷◌, Option, Some, None,
 use Rattle.serde_json.specs.Data.{Data, Items, no_items, item, Members, no_members, member}
 use Rattle.serde_json.specs.Find.{get, as_number, as_u64, as_str, as_array, as_object}
 
--- the member of this name, where it is a whole number below 2^64
-abbrev pub number_at : List ℕ → Data → Option ℕ
-number_at name d = option_and_then (λ m. option_and_then as_u64 (as_number m)) (get name d)
-
 -- a whole number below 2^64
 abbrev pub whole_in : Data → Option ℕ
 whole_in d = option_and_then as_u64 (as_number d)
+
+-- the member of this name, where it is a whole number below 2^64
+abbrev pub number_at : List ℕ → Data → Option ℕ
+number_at name d = option_and_then whole_in (get name d)
 
 -- a list of two whole numbers
 abbrev pub two_in : Items → Option (ℕ × ℕ)

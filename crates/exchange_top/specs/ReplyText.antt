@@ -7,14 +7,18 @@ use Rattle.settle_core.specs.declared.command_words.reply.LineFault.TheVariants 
 use Rattle.settle_core.specs.declared.command_words.reply.Reply.{Reply}
 use Rattle.settle_core.specs.declared.command_words.reply.Reply.TheVariants.{Done, Prepared, Balanced, Vaulted, Refused, Bad}
 
+-- the text of a refusal that has no member but rests
+abbrev pub plain_text : List ℕ → ℕ → List ℕ
+plain_text head rests = head ++ decimal rests ++ codes "}\n"
+
 abbrev pub refusal_text : Refusal → ℕ → List ℕ
-refusal_text NotAllowed rests = codes "{\"code\":5,\"error\":\"NotAllowed\",\"rests\":" ++ decimal rests ++ codes "}\n"
-refusal_text NoCondition rests = codes "{\"code\":6,\"error\":\"NoCondition\",\"rests\":" ++ decimal rests ++ codes "}\n"
-refusal_text AlreadyPrepared rests = codes "{\"code\":7,\"error\":\"AlreadyPrepared\",\"rests\":" ++ decimal rests ++ codes "}\n"
-refusal_text TableFull rests = codes "{\"code\":8,\"error\":\"TableFull\",\"rests\":" ++ decimal rests ++ codes "}\n"
+refusal_text NotAllowed rests = plain_text (codes "{\"code\":5,\"error\":\"NotAllowed\",\"rests\":") rests
+refusal_text NoCondition rests = plain_text (codes "{\"code\":6,\"error\":\"NoCondition\",\"rests\":") rests
+refusal_text AlreadyPrepared rests = plain_text (codes "{\"code\":7,\"error\":\"AlreadyPrepared\",\"rests\":") rests
+refusal_text TableFull rests = plain_text (codes "{\"code\":8,\"error\":\"TableFull\",\"rests\":") rests
 refusal_text (VaultLimit vault) rests =
     codes "{\"code\":32,\"error\":\"VaultLimit\",\"rests\":" ++ decimal rests ++ codes ",\"vault\":" ++ decimal vault ++ codes "}\n"
-refusal_text HistoryFull rests = codes "{\"code\":35,\"error\":\"HistoryFull\",\"rests\":" ++ decimal rests ++ codes "}\n"
+refusal_text HistoryFull rests = plain_text (codes "{\"code\":35,\"error\":\"HistoryFull\",\"rests\":") rests
 refusal_text Memory rests = codes "{\"code\":37,\"error\":\"Memory\"}\n"
 
 abbrev pub fault_text : LineFault → List ℕ

@@ -7,6 +7,7 @@ use line_link::{MemorySink, MemorySource, Status};
 use outside_faults::FailingCalls;
 use settle_core::ListClock;
 use std::alloc::{AllocError, Global};
+use std::process::Abort;
 use std::test::Fail;
 
 const DEPOSIT: &[u8] = b"{\"do\":\"deposit\",\"by\":0,\"to\":2,\"amount\":100}\n";
@@ -55,9 +56,19 @@ fn calm() -> Outside<'static> {
     }
 }
 
+/// Runs the program on each input, and compares what it wrote.
+fn tells(rt: &(impl Abort + AllocGlobal), table: &[(&[u8], &[u8])]) -> Result<(), Fail> {
+    for (input, replies) in table {
+        let (ended, sink) = ran(rt.alloc(), "run", input, &calm())?;
+        assert_eq!(rt; ended.status, Status::Done);
+        assert_eq!(rt; sink.as_slice(), *replies);
+    }
+    Ok(())
+}
+
 #[test]
-fn answers_each_line(rt: HostRuntime) -> Result<(), Fail> {
-    let table: [(&[u8], &[u8]); 15] = [
+fn reads_each_line(rt: HostRuntime) -> Result<(), Fail> {
+    let table: [(&[u8], &[u8]); 10] = [
         (b"", b""),
         (b"\n", b"{\"code\":2,\"error\":\"NotJson\"}\n"),
         (b"\xff\n", b"{\"code\":2,\"error\":\"NotJson\"}\n"),
@@ -69,16 +80,27 @@ fn answers_each_line(rt: HostRuntime) -> Result<(), Fail> {
             b"{\"code\":3,\"error\":\"NotCommand\"}\n{\"code\":3,\"error\":\"NotCommand\"}\n{\"code\":3,\"error\":\"NotCommand\"}\n",
         ),
         (
-            b"{\"do\":\"prepare\",\"by\":2,\"oracle\":3,\"question\":7,\"slots\":2}\n{\"slots\":2,\"question\":7,\"oracle\":3,\"by\":4,\"do\":\"prepare\"}\n{\"do\":\"prepare\",\"by\":2,\"oracle\":3,\"question\":8,\"slots\":2}\n",
-            b"{\"condition\":0,\"lsn\":0}\n{\"code\":7,\"error\":\"AlreadyPrepared\",\"rests\":1}\n{\"condition\":1,\"lsn\":1}\n",
-        ),
-        (
             b"{\"do\":\"prepare\",\"by\":2,\"oracle\":3,\"question\":7,\"slots\":3}\n{\"do\":\"prepare\",\"by\":2,\"oracle\":3,\"question\":7,\"slots\":258}\n{\"do\":\"prepare\",\"by\":2,\"oracle\":3,\"question\":1000000000000001,\"slots\":2}\n",
             b"{\"code\":3,\"error\":\"NotCommand\"}\n{\"code\":3,\"error\":\"NotCommand\"}\n{\"code\":3,\"error\":\"NotCommand\"}\n",
         ),
         (
             b"{\"do\":\"deposit\",\"by\":0,\"to\":2,\"amount\":0}\n{\"do\":\"vault\",\"by\":65536}\n",
             b"{\"code\":3,\"error\":\"NotCommand\"}\n{\"code\":3,\"error\":\"NotCommand\"}\n",
+        ),
+        (
+            b"{\"do\":\"balance\",\"by\":2,\"of\":2,\"key\":[[65536,1]]}\n{\"do\":\"balance\",\"by\":2,\"of\":2,\"key\":[0,1]}\n",
+            b"{\"code\":3,\"error\":\"NotCommand\"}\n{\"code\":3,\"error\":\"NotCommand\"}\n",
+        ),
+    ];
+    tells(&rt, &table)
+}
+
+#[test]
+fn answers_each_command(rt: HostRuntime) -> Result<(), Fail> {
+    let table: [(&[u8], &[u8]); 5] = [
+        (
+            b"{\"do\":\"prepare\",\"by\":2,\"oracle\":3,\"question\":7,\"slots\":2}\n{\"slots\":2,\"question\":7,\"oracle\":3,\"by\":4,\"do\":\"prepare\"}\n{\"do\":\"prepare\",\"by\":2,\"oracle\":3,\"question\":8,\"slots\":2}\n",
+            b"{\"condition\":0,\"lsn\":0}\n{\"code\":7,\"error\":\"AlreadyPrepared\",\"rests\":1}\n{\"condition\":1,\"lsn\":1}\n",
         ),
         (
             b"{\"do\":\"deposit\",\"by\":0,\"to\":2,\"amount\":100}\n{\"do\":\"vault\",\"by\":2}\n",
@@ -96,17 +118,8 @@ fn answers_each_line(rt: HostRuntime) -> Result<(), Fail> {
             b"{\"do\":\"deposit\",\"by\":0,\"to\":2,\"amount\":100}\n{\"do\":\"balance\",\"by\":2,\"of\":2,\"key\":[]}\n{\"do\":\"balance\",\"by\":2,\"of\":2,\"key\":[[0,1]]}\n",
             b"{\"lsn\":0}\n{\"amount\":100,\"rests\":1}\n{\"code\":6,\"error\":\"NoCondition\",\"rests\":1}\n",
         ),
-        (
-            b"{\"do\":\"balance\",\"by\":2,\"of\":2,\"key\":[[65536,1]]}\n{\"do\":\"balance\",\"by\":2,\"of\":2,\"key\":[0,1]}\n",
-            b"{\"code\":3,\"error\":\"NotCommand\"}\n{\"code\":3,\"error\":\"NotCommand\"}\n",
-        ),
     ];
-    for (input, replies) in table {
-        let (ended, sink) = ran(rt.alloc(), "run", input, &calm())?;
-        assert_eq!(rt; ended.status, Status::Done);
-        assert_eq!(rt; sink.as_slice(), replies);
-    }
-    Ok(())
+    tells(&rt, &table)
 }
 
 #[test]
@@ -173,6 +186,7 @@ fn faults(rt: HostRuntime) -> Result<(), Fail> {
     let (ended, sink) = ran(alloc, "run", &input, &outside)?;
     assert_eq!(rt; (ended.status, ended.lines), (Status::ReadFault, 2));
     assert_eq!(rt; sink.as_slice().len(), 44);
+    assert!(rt; replies.starts_with(sink.as_slice()));
     for call in 1..7 {
         let outside = Outside {
             read: 4_096,

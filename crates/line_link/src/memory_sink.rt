@@ -73,7 +73,7 @@ impl Sink for MemorySink {
         ensures bytes { WriteAppends (Some self.old.bytes) (Some self.new.bytes) result bytes.now }
         ensures cause { HasCause self.old.faults self.new.faults result }
 
-        // It fails at the calls that are to fail, and for want of memory alone beside that; it takes whole pieces.
+        // It fails at the calls that are to fail, and may fail for want of memory beside that; it takes whole pieces.
         ensures scripted { Contains self.old.script.failing self.new.script.made → IsErr result }
         ensures script { self.new.script ≡ raised_calls self.old.script }
         ensures whole { IfOk result (λ n. n ≡ min (length bytes.now) self.old.piece) }

@@ -1,8 +1,8 @@
 //! The exchange as a value: what a command is, what it is answered, and the history that it leaves.
 //!
 //! `specs/` has the rules: [`Exchange`] is seen as its limits, its history and its room, and each of its calls
-//! promises the verdict, the reply and the history that the rules give. The tables and running totals behind
-//! it are told by no clause.
+//! promises the verdict, the reply and the history that the rules give. The conditions, balances and running
+//! totals that it keeps are told only as what the history gives.
 #![tactic(auto)]
 
 mod command_words;

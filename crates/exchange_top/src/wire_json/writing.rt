@@ -1,5 +1,5 @@
 ghost use Rattle.std.specs.Prelude.{◌≡◌, ◌+◌, ◌≤◌, [], ◌++◌, length};
-ghost use Rattle.exchange_top.specs.ReplyText.{text_of, refusal_text, fault_text};
+ghost use Rattle.exchange_top.specs.ReplyText.{text_of, refusal_text, plain_text, fault_text};
 
 use crate::wire_json::text::Text;
 use settle_core::{LineFault, Refusal, Reply};
@@ -47,26 +47,26 @@ fn write_refusal(refusal: Refusal, rests: u64, into: &mut Text)
     ensures { into.new ≡ refusal_text refusal rests }
 {
     match refusal {
-        Refusal::NotAllowed => {
-            into.push(b"{\"code\":5,\"error\":\"NotAllowed\",\"rests\":");
-            into.push_number(rests);
-            into.push(b"}\n");
-        }
-        Refusal::NoCondition => {
-            into.push(b"{\"code\":6,\"error\":\"NoCondition\",\"rests\":");
-            into.push_number(rests);
-            into.push(b"}\n");
-        }
-        Refusal::AlreadyPrepared => {
-            into.push(b"{\"code\":7,\"error\":\"AlreadyPrepared\",\"rests\":");
-            into.push_number(rests);
-            into.push(b"}\n");
-        }
-        Refusal::TableFull => {
-            into.push(b"{\"code\":8,\"error\":\"TableFull\",\"rests\":");
-            into.push_number(rests);
-            into.push(b"}\n");
-        }
+        Refusal::NotAllowed => write_plain(
+            b"{\"code\":5,\"error\":\"NotAllowed\",\"rests\":",
+            rests,
+            into,
+        ),
+        Refusal::NoCondition => write_plain(
+            b"{\"code\":6,\"error\":\"NoCondition\",\"rests\":",
+            rests,
+            into,
+        ),
+        Refusal::AlreadyPrepared => write_plain(
+            b"{\"code\":7,\"error\":\"AlreadyPrepared\",\"rests\":",
+            rests,
+            into,
+        ),
+        Refusal::TableFull => write_plain(
+            b"{\"code\":8,\"error\":\"TableFull\",\"rests\":",
+            rests,
+            into,
+        ),
         Refusal::VaultLimit { vault } => {
             into.push(b"{\"code\":32,\"error\":\"VaultLimit\",\"rests\":");
             into.push_number(rests);
@@ -74,13 +74,24 @@ fn write_refusal(refusal: Refusal, rests: u64, into: &mut Text)
             into.push_number(vault);
             into.push(b"}\n");
         }
-        Refusal::HistoryFull => {
-            into.push(b"{\"code\":35,\"error\":\"HistoryFull\",\"rests\":");
-            into.push_number(rests);
-            into.push(b"}\n");
-        }
+        Refusal::HistoryFull => write_plain(
+            b"{\"code\":35,\"error\":\"HistoryFull\",\"rests\":",
+            rests,
+            into,
+        ),
         Refusal::Memory => into.push(b"{\"code\":37,\"error\":\"Memory\"}\n"),
     }
+}
+
+/// The text of a refusal that has no member but `rests`.
+fn write_plain(head: &[u8], rests: u64, into: &mut Text)
+    requires empty { into.old ≡ [] }
+    requires short { length head.now ≤ 100 }
+    ensures { into.new ≡ plain_text head.now rests }
+{
+    into.push(head);
+    into.push_number(rests);
+    into.push(b"}\n");
 }
 
 fn write_fault(fault: LineFault, into: &mut Text)

@@ -46,7 +46,8 @@ impl Command {
         }
     }
 
-    /// Whether each member lies in its range: an amount from 1 to [`MAX_AMOUNT`].
+    /// Whether each member lies in its range: an amount from 1 to [`MAX_AMOUNT`], a question up to
+    /// [`MAX_QUESTION`], slots from [`MIN_SLOTS`] to [`MAX_SLOTS`], a condition up to [`MAX_CONDITION`].
     pub fn in_ranges(&self) -> bool
         ensures { result ≡ in_ranges self.now }
     {
