@@ -3,8 +3,9 @@ use Rattle.std.specs.Prelude.{◌==◌, ℕ, if◌then◌else◌, List, codes, O
 use Rattle.std.specs.Str.{bytes_eq}
 use Rattle.serde_json.specs.Data.{Data}
 use Rattle.settle_core.specs.declared.command_words.command.Command.{Command}
-use Rattle.settle_core.specs.declared.command_words.command.Command.TheVariants.{Deposit, Prepare, Balance, Vault}
-use Rattle.exchange_top.specs.Json.{number_at, key_at, member_count}
+use Rattle.settle_core.specs.declared.command_words.command.Command.TheVariants.{Deposit, Prepare, Split, Balance, Vault}
+use Rattle.settle_core.specs.Keys.{Collection}
+use Rattle.exchange_top.specs.Json.{number_at, key_at, sets_at, member_count}
 
 -- {"do":"deposit","by":account,"to":account,"amount":amount}
 abbrev pub deposit_in : Data → Option Command
@@ -15,6 +16,14 @@ abbrev pub prepare_in : Data → Option Command
 prepare_in d =
     option_and_then (λ oracle. option_and_then (λ question. option_map (λ slots. Prepare oracle question slots) (number_at (codes "slots") d)) (number_at (codes "question") d)) (number_at (codes "oracle") d)
 
+abbrev pub split_by : Option Collection → ℕ → Option (List ℕ) → ℕ → Option Command
+split_by parent condition sets amount = option_and_then (λ key. option_map (λ bits. Split key condition bits amount) sets) parent
+
+-- {"do":"split","by":account,"parent":key,"condition":number,"sets":sets,"amount":amount}
+abbrev pub split_in : Data → Option Command
+split_in d =
+    option_and_then (λ condition. option_and_then (λ amount. split_by (key_at (codes "parent") d) condition (sets_at (codes "sets") d) amount) (number_at (codes "amount") d)) (number_at (codes "condition") d)
+
 -- {"do":"balance","by":account,"of":account,"key":key}
 abbrev pub balance_in : Data → Option Command
 balance_in d = option_and_then (λ holder. option_map (λ key. Balance holder key) (key_at (codes "key") d)) (number_at (codes "of") d)
@@ -24,6 +33,7 @@ abbrev pub command_in : List ℕ → Data → Option Command
 command_in name d =
     if bytes_eq name (codes "deposit") then (if member_count d == 4 then deposit_in d else None)
     else (if bytes_eq name (codes "prepare") then (if member_count d == 5 then prepare_in d else None)
+    else (if bytes_eq name (codes "split") then (if member_count d == 6 then split_in d else None)
     else (if bytes_eq name (codes "balance") then (if member_count d == 4 then balance_in d else None)
     else (if bytes_eq name (codes "vault") then (if member_count d == 2 then Some Vault else None)
-    else None)))
+    else None))))

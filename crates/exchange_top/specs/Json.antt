@@ -32,6 +32,14 @@ pairs_in (item d (item e ds)) = None
 abbrev pub key_at : List ℕ → Data → Option (List (ℕ × ℕ))
 key_at name d = option_and_then pairs_in (option_and_then as_array (get name d))
 
+-- a list of two sets; of another length none is read so far
+abbrev pub sets_in : Items → Option (List ℕ)
+sets_in ds = option_map (λ p. p.0 ∷ p.1 ∷ []) (two_in ds)
+
+-- the member of this name, where it is a list of sets
+abbrev pub sets_at : List ℕ → Data → Option (List ℕ)
+sets_at name d = option_and_then sets_in (option_and_then as_array (get name d))
+
 -- the member of this name, where it is text
 abbrev pub text_at : List ℕ → Data → Option (List ℕ)
 text_at name d = option_and_then as_str (get name d)

@@ -1,11 +1,16 @@
 -- What is kept of numbers that may be out of their ranges.
 use Rattle.std.specs.Prelude.{ℕ, ◌^◌, nat_lt, ◌&&◌, if◌then◌else◌, Option, Some, None}
 use Rattle.settle_core.specs.declared.command_words.command.Command.{Command}
+use Rattle.settle_core.specs.Keys.{is_condition}
 use Rattle.settle_core.specs.Command.{is_account, in_ranges, is_built}
 
 -- an account's number
 abbrev pub ranged_account : ℕ → Option ℕ
 ranged_account number = if is_account number then Some number else None
+
+-- a condition's number
+abbrev pub ranged_condition : ℕ → Option ℕ
+ranged_condition number = if is_condition number then Some number else None
 
 -- a pair that is kept as numbers of 16 and 32 bits
 abbrev pub ranged_pair : Option (ℕ × ℕ) → Option (ℕ × ℕ)

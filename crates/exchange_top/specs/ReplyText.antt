@@ -1,7 +1,7 @@
 -- The text of each reply: one JSON object without spaces, members in ascending order of their names, and a newline.
 use Rattle.std.specs.Prelude.{ℕ, List, ◌++◌, codes, decimal}
 use Rattle.settle_core.specs.declared.command_words.refusal.Refusal.{Refusal}
-use Rattle.settle_core.specs.declared.command_words.refusal.Refusal.TheVariants.{NotAllowed, NoCondition, AlreadyPrepared, TableFull, VaultLimit, HistoryFull, Memory}
+use Rattle.settle_core.specs.declared.command_words.refusal.Refusal.TheVariants.{NotAllowed, NoCondition, AlreadyPrepared, TableFull, Unfunded, VaultLimit, SupplyLimit, HistoryFull, Memory}
 use Rattle.settle_core.specs.declared.command_words.reply.LineFault.{LineFault}
 use Rattle.settle_core.specs.declared.command_words.reply.LineFault.TheVariants as fault
 use Rattle.settle_core.specs.declared.command_words.reply.Reply.{Reply}
@@ -16,8 +16,12 @@ refusal_text NotAllowed rests = plain_text (codes "{\"code\":5,\"error\":\"NotAl
 refusal_text NoCondition rests = plain_text (codes "{\"code\":6,\"error\":\"NoCondition\",\"rests\":") rests
 refusal_text AlreadyPrepared rests = plain_text (codes "{\"code\":7,\"error\":\"AlreadyPrepared\",\"rests\":") rests
 refusal_text TableFull rests = plain_text (codes "{\"code\":8,\"error\":\"TableFull\",\"rests\":") rests
+refusal_text (Unfunded have place) rests =
+    codes "{\"code\":28,\"error\":\"Unfunded\",\"have\":" ++ decimal have ++ codes ",\"place\":" ++ decimal place ++ codes ",\"rests\":" ++ decimal rests ++ codes "}\n"
 refusal_text (VaultLimit vault) rests =
     codes "{\"code\":32,\"error\":\"VaultLimit\",\"rests\":" ++ decimal rests ++ codes ",\"vault\":" ++ decimal vault ++ codes "}\n"
+refusal_text (SupplyLimit supply) rests =
+    codes "{\"code\":33,\"error\":\"SupplyLimit\",\"rests\":" ++ decimal rests ++ codes ",\"supply\":" ++ decimal supply ++ codes "}\n"
 refusal_text HistoryFull rests = plain_text (codes "{\"code\":35,\"error\":\"HistoryFull\",\"rests\":") rests
 refusal_text Memory rests = codes "{\"code\":37,\"error\":\"Memory\"}\n"
 

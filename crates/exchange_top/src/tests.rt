@@ -12,6 +12,13 @@ use std::test::Fail;
 
 const DEPOSIT: &[u8] = b"{\"do\":\"deposit\",\"by\":0,\"to\":2,\"amount\":100}\n";
 
+/// A first trade: money comes in, a condition is prepared, and cash is split into its two sets.
+const FIRST_TRADE: &[u8] =
+    b"{\"do\":\"deposit\",\"by\":0,\"to\":2,\"amount\":100}\n{\"do\":\"prepare\",\"by\":2,\"oracle\":3,\"question\":7,\"slots\":2}\n{\"do\":\"split\",\"by\":2,\"parent\":[],\"condition\":0,\"sets\":[1,2],\"amount\":60}\n{\"do\":\"balance\",\"by\":2,\"of\":2,\"key\":[]}\n{\"do\":\"balance\",\"by\":2,\"of\":2,\"key\":[[0,1]]}\n{\"do\":\"vault\",\"by\":2}\n";
+
+const FIRST_REPLIES: &[u8] =
+    b"{\"lsn\":0}\n{\"condition\":0,\"lsn\":1}\n{\"lsn\":2}\n{\"amount\":40,\"rests\":3}\n{\"amount\":60,\"rests\":3}\n{\"rests\":3,\"vault\":100}\n";
+
 const VAULT: &[u8] = b"{\"do\":\"vault\",\"by\":2}\n";
 
 const EMPTY_VAULT: &[u8] = b"{\"rests\":0,\"vault\":0}\n";
@@ -68,7 +75,15 @@ fn tells(rt: &(impl Abort + AllocGlobal), table: &[(&[u8], &[u8])]) -> Result<()
 
 #[test]
 fn reads_each_line(rt: HostRuntime) -> Result<(), Fail> {
-    let table: [(&[u8], &[u8]); 10] = [
+    let table: [(&[u8], &[u8]); 12] = [
+        (
+            b"{\"do\":\"split\",\"by\":2,\"parent\":[],\"condition\":0,\"sets\":[2,1],\"amount\":1}\n{\"do\":\"split\",\"by\":2,\"parent\":[],\"condition\":0,\"sets\":[1],\"amount\":1}\n{\"do\":\"split\",\"by\":2,\"parent\":[],\"condition\":0,\"sets\":[1,2,4],\"amount\":1}\n{\"do\":\"split\",\"by\":2,\"parent\":[],\"condition\":0,\"sets\":[1,4294967298],\"amount\":1}\n",
+            b"{\"code\":3,\"error\":\"NotCommand\"}\n{\"code\":3,\"error\":\"NotCommand\"}\n{\"code\":3,\"error\":\"NotCommand\"}\n{\"code\":3,\"error\":\"NotCommand\"}\n",
+        ),
+        (
+            b"{\"do\":\"split\",\"by\":2,\"parent\":[[0,1]],\"condition\":1,\"sets\":[1,2],\"amount\":1}\n{\"do\":\"split\",\"by\":2,\"parent\":0,\"condition\":0,\"sets\":[1,2],\"amount\":1}\n{\"do\":\"split\",\"by\":2,\"parent\":[],\"condition\":65536,\"sets\":[1,2],\"amount\":1}\n{\"do\":\"split\",\"by\":2,\"parent\":[],\"condition\":0,\"sets\":[1,2]}\n",
+            b"{\"code\":3,\"error\":\"NotCommand\"}\n{\"code\":3,\"error\":\"NotCommand\"}\n{\"code\":3,\"error\":\"NotCommand\"}\n{\"code\":3,\"error\":\"NotCommand\"}\n",
+        ),
         (b"", b""),
         (b"\n", b"{\"code\":2,\"error\":\"NotJson\"}\n"),
         (b"\xff\n", b"{\"code\":2,\"error\":\"NotJson\"}\n"),
@@ -97,7 +112,20 @@ fn reads_each_line(rt: HostRuntime) -> Result<(), Fail> {
 
 #[test]
 fn answers_each_command(rt: HostRuntime) -> Result<(), Fail> {
-    let table: [(&[u8], &[u8]); 5] = [
+    let table: [(&[u8], &[u8]); 9] = [
+        (FIRST_TRADE, FIRST_REPLIES),
+        (
+            b"{\"amount\":1,\"sets\":[1, 2],\"do\":\"split\",\"condition\":0,\"by\":2,\"parent\":[]}\n",
+            b"{\"code\":6,\"error\":\"NoCondition\",\"rests\":0}\n",
+        ),
+        (
+            b"{\"do\":\"prepare\",\"by\":2,\"oracle\":3,\"question\":7,\"slots\":2}\n{\"do\":\"split\",\"by\":2,\"parent\":[],\"condition\":0,\"sets\":[1,2],\"amount\":1}\n",
+            b"{\"condition\":0,\"lsn\":0}\n{\"code\":28,\"error\":\"Unfunded\",\"have\":0,\"place\":0,\"rests\":1}\n",
+        ),
+        (
+            b"{\"do\":\"deposit\",\"by\":0,\"to\":2,\"amount\":1000000000000000}\n{\"do\":\"prepare\",\"by\":2,\"oracle\":3,\"question\":7,\"slots\":2}\n{\"do\":\"split\",\"by\":2,\"parent\":[],\"condition\":0,\"sets\":[1,2],\"amount\":1000000000000001}\n{\"do\":\"split\",\"by\":2,\"parent\":[],\"condition\":0,\"sets\":[1,2],\"amount\":1000000000000000}\n",
+            b"{\"lsn\":0}\n{\"condition\":0,\"lsn\":1}\n{\"code\":3,\"error\":\"NotCommand\"}\n{\"lsn\":2}\n",
+        ),
         (
             b"{\"do\":\"prepare\",\"by\":2,\"oracle\":3,\"question\":7,\"slots\":2}\n{\"slots\":2,\"question\":7,\"oracle\":3,\"by\":4,\"do\":\"prepare\"}\n{\"do\":\"prepare\",\"by\":2,\"oracle\":3,\"question\":8,\"slots\":2}\n",
             b"{\"condition\":0,\"lsn\":0}\n{\"code\":7,\"error\":\"AlreadyPrepared\",\"rests\":1}\n{\"condition\":1,\"lsn\":1}\n",

@@ -1,15 +1,16 @@
 -- What one act more does to a history.
 use Rattle.std.proofs.Common.{◌≡◌, ℕ, ◌+◌, ◌<◌, List, [], ◌∷◌, ◌++◌, length, take, get_or, Some, sym, ◌∙◌, ap, subst, inl, inr, arith, length-append}
-use Rattle.std.specs.Prelude.{slice_get}
+use Rattle.std.specs.Prelude.{slice_get, sum_by}
 use Rattle.std.proofs.lemmas.Bool.{cases_lt}
 use Rattle.std.proofs.lemmas.List.{get_or_append_left, take-append-le}
-use Rattle.std.proofs.lemmas.List.Sums.{sum_by_push}
+use Rattle.std.proofs.lemmas.List.Sums.{sum_by_push, sum_by-append}
 use Rattle.std.proofs.lemmas.Option.{slice_get_within, slice_get-get_or}
 use Rattle.std.proofs.Math.Seq.{get_or-append_seam, take-append_seam}
 use Rattle.settle_core.specs.declared.command_words.act.Act.{Act}
 use Rattle.settle_core.specs.Bounds.{Bounds}
 use Rattle.settle_core.specs.Legal.{IsAccepted, IsLegal}
-use Rattle.settle_core.specs.Book.{book-more, conditions, prepared_after, Book}
+use Rattle.settle_core.specs.declared.ledger_book.posting.Posting.{Posting}
+use Rattle.settle_core.specs.Book.{book-more, conditions, prepared_by, postings, postings_of, Book}
 use Rattle.settle_core.specs.Postings.{vault, deposit_of}
 
 -- the value in a Some
@@ -47,5 +48,12 @@ pub vault-more : (history : List Act) (act : Act) → vault (history ++ act ∷ 
 vault-more history act = sum_by_push (λ (a : Act). deposit_of a.command) history act
 
 -- an act more prepares its condition
-pub conditions-more : (history : List Act) (act : Act) → conditions (history ++ act ∷ []) ≡ prepared_after act.command (conditions history)
+pub conditions-more : (history : List Act) (act : Act) → conditions (history ++ act ∷ []) ≡ conditions history ++ prepared_by act.command
 conditions-more history act = ap (λ (b : Book). b.conditions) (book-more history act)
+
+-- an act more posts behind the others, which adds to every sum over what was posted
+pub postings-more : (history : List Act) (act : Act) → postings (history ++ act ∷ []) ≡ postings history ++ postings_of act.account act.command
+postings-more history act = ap (λ (b : Book). b.postings) (book-more history act)
+
+pub sum-more : (f : Posting → ℕ) (history : List Act) (act : Act) → sum_by f (postings (history ++ act ∷ [])) ≡ sum_by f (postings history) + sum_by f (postings_of act.account act.command)
+sum-more f history act = ap (sum_by f) (postings-more history act) ∙ sum_by-append f (postings history) (postings_of act.account act.command)

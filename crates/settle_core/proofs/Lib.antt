@@ -1,7 +1,12 @@
 mod Balances
 mod Cash
+mod Commits
+mod Funding
 mod Histories
 mod KeptLemmas
 mod Lowest
+mod Splits
+mod Sums
+mod Supplies
 mod Verdicts
 mod Walks

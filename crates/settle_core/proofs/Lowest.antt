@@ -1,11 +1,17 @@
 -- The first refusal that is there has the lowest number.
 use Rattle.std.proofs.Common.{◌≡◌, ℕ, ◌<◌, ◌≤◌, List, [], ◌∷◌, length, Option, Some, None, refl, subst, arith, zero, suc, Bool, true, false}
-use Rattle.std.specs.Prelude.{Contains, slice_index_or}
+use Rattle.std.specs.Prelude.{Contains, slice_index_or, option_map}
+use Rattle.settle_core.specs.declared.command_words.act.Act.{Act}
+use Rattle.settle_core.specs.declared.command_words.command.Command.{Command}
+use Rattle.settle_core.specs.declared.command_words.command.Command.TheVariants.{Deposit, Prepare, Split, Balance, Vault}
 use Rattle.settle_core.specs.declared.command_words.refusal.Refusal.{Refusal}
-use Rattle.settle_core.specs.declared.command_words.refusal.Refusal.TheVariants.{NotAllowed, NoCondition, AlreadyPrepared, TableFull, VaultLimit, HistoryFull}
-use Rattle.settle_core.specs.Postings.{vault}
+use Rattle.settle_core.specs.declared.command_words.refusal.Refusal.TheVariants.{NotAllowed, NoCondition, AlreadyPrepared, TableFull, Unfunded, VaultLimit, SupplyLimit, HistoryFull}
+use Rattle.settle_core.specs.Book.{postings_of}
+use Rattle.settle_core.specs.Keys.{root}
+use Rattle.settle_core.specs.Postings.{balance, supply, vault}
 use Rattle.settle_core.specs.Refusal.{code_of}
-use Rattle.settle_core.specs.Verdict.{Question, where_, first_some, refusals}
+use Rattle.settle_core.specs.Staging.{oversupplied}
+use Rattle.settle_core.specs.Verdict.{Question, where_, first_some, refusals, shortage, unfunded, vault_limit, supply_limit, history_full}
 
 -- the refusal has this number, where it is there
 abbrev pub IsNumbered : ℕ → Option Refusal → Type 0
@@ -21,34 +27,35 @@ where_-numbered : (holds : Bool) (refusal : Refusal) → IsNumbered (code_of ref
 where_-numbered true refusal = refl
 where_-numbered false refusal = tt
 
+-- a refusal that is there is numbered, whatever it tells
+numbered-each : {X : Type 0} (number : ℕ) (refusal : X → Refusal) → ((x : X) → code_of (refusal x) ≡ number) → (o : Option X) → IsNumbered number (option_map refusal o)
+numbered-each number refusal numbers None = tt
+numbered-each number refusal numbers (Some x) = numbers x
+
+shortage-numbered : (history : List Act) (account : ℕ) (command : Command) → IsNumbered 28 (shortage history account command)
+shortage-numbered history account (Deposit to amount) = tt
+shortage-numbered history account (Prepare oracle question slots) = tt
+shortage-numbered history account (Split parent condition sets amount) = where_-numbered _ (Unfunded (balance history account root) 0)
+shortage-numbered history account (Balance holder key) = tt
+shortage-numbered history account Vault = tt
+
 -- the refusals of a question stand in the order of their numbers
 pub refusals-rise : (q : Question) → Rises 0 (refusals q)
-refusals-rise q = (
-  5,
-  omega arith,
-  where_-numbered _ NotAllowed,
-  (
-    6,
-    omega arith,
-    where_-numbered _ NoCondition,
-    (
-      7,
+refusals-rise q =
+    let last : Rises 33 (history_full q ∷ []) = (35, omega arith, where_-numbered _ HistoryFull, tt) in
+    let supplies : Rises 32 (supply_limit q ∷ history_full q ∷ []) = (33, omega arith, numbered-each 33 SupplyLimit (λ held. refl) (oversupplied (supply q.history) (postings_of q.account q.command)), last) in
+    let vaults : Rises 28 (vault_limit q ∷ supply_limit q ∷ history_full q ∷ []) = (32, omega arith, where_-numbered _ (VaultLimit (vault q.history)), supplies) in
+    let funds : Rises 8 (unfunded q ∷ vault_limit q ∷ supply_limit q ∷ history_full q ∷ []) = (28, omega arith, shortage-numbered q.history q.account q.command, vaults) in (
+      5,
       omega arith,
-      where_-numbered _ AlreadyPrepared,
+      where_-numbered _ NotAllowed,
       (
-        8,
+        6,
         omega arith,
-        where_-numbered _ TableFull,
-        (
-          32,
-          omega arith,
-          where_-numbered _ (VaultLimit (vault q.history)),
-          (35, omega arith, where_-numbered _ HistoryFull, tt),
-        ),
+        where_-numbered _ NoCondition,
+        (7, omega arith, where_-numbered _ AlreadyPrepared, (8, omega arith, where_-numbered _ TableFull, funds)),
       ),
-    ),
-  ),
-)
+    )
 
 numbered : (number : ℕ) (o : Option Refusal) (refusal : Refusal) → IsNumbered number o → o ≡ Some refusal → code_of refusal ≡ number
 numbered number o refusal is there = let P : Option Refusal → Type 0 = λ p. IsNumbered number p in subst P there is

@@ -1,16 +1,29 @@
 -- What follows from a verdict.
 use Rattle.std.proofs.Common.{◌≡◌, ℕ, ◌+◌, ◌<◌, ◌≤◌, List, [], ◌∷◌, length, Option, Some, None, refl, arith, zero, suc, Bool, true, false}
-use Rattle.std.specs.Prelude.{slice_get, nat_le, ◌&&◌}
+use Rattle.std.specs.Prelude.{slice_get, nat_le, ◌&&◌, option_map, Err}
 use Rattle.std.proofs.lemmas.Bool.Decides.{nat_tests}
 use Rattle.condition_sets.specs.declared.amount.TheConstants.{MAX_AMOUNT}
 use Rattle.settle_core.specs.declared.command_words.command.Command.{Command}
-use Rattle.settle_core.specs.declared.command_words.command.Command.TheVariants.{Deposit, Prepare, Balance, Vault}
+use Rattle.settle_core.specs.declared.command_words.command.Command.TheVariants.{Deposit, Prepare, Split, Balance, Vault}
 use Rattle.settle_core.specs.declared.command_words.refusal.Refusal.{Refusal}
-use Rattle.settle_core.specs.declared.command_words.refusal.Refusal.TheVariants.{AlreadyPrepared, TableFull, VaultLimit, HistoryFull}
+use Rattle.settle_core.specs.declared.command_words.refusal.Refusal.TheVariants.{NotAllowed, NoCondition, AlreadyPrepared, TableFull, Unfunded, VaultLimit, SupplyLimit, HistoryFull, Memory}
 use Rattle.settle_core.specs.Command.{makes_act}
-use Rattle.settle_core.specs.Book.{conditions}
-use Rattle.settle_core.specs.Postings.{vault, deposit_of}
-use Rattle.settle_core.specs.Verdict.{Question, verdict, where_, first_some, refusals, prepares_again, already_prepared, is_above_table, table_full, is_above_vault, vault_limit, history_full}
+use Rattle.settle_core.specs.Book.{conditions, postings_of}
+use Rattle.settle_core.specs.Postings.{supply, vault, deposit_of}
+use Rattle.settle_core.specs.Staging.{oversupplied}
+use Rattle.settle_core.specs.Verdict.{Question, verdict, where_, first_some, refusals, prepares_again, already_prepared, is_above_table, table_full, is_above_vault, vault_limit, supply_limit, history_full, AnsweredBy}
+
+-- a call that refuses by the verdict is answered by it
+pub answered-err : (X : Type 0) (given : Option Refusal) (refusal : Refusal) → given ≡ Some refusal → AnsweredBy {X = X} given (Err refusal)
+answered-err X given NotAllowed same = same
+answered-err X given NoCondition same = same
+answered-err X given AlreadyPrepared same = same
+answered-err X given TableFull same = same
+answered-err X given (Unfunded have place) same = same
+answered-err X given (VaultLimit held) same = same
+answered-err X given (SupplyLimit held) same = same
+answered-err X given HistoryFull same = same
+answered-err X given Memory same = tt
 
 -- where nothing is there, each is none
 first_some-none : {X : Type 0} (os : List (Option X)) (place : ℕ) (o : Option X) → first_some os ≡ None → slice_get os place ≡ Some o → o ≡ None
@@ -32,13 +45,14 @@ and_right false b first both = cc
 pub accepted-within : (q : Question) → verdict q ≡ None → makes_act q.command ≡ true → length q.history < q.limits.history
 unfolding verdict
 accepted-within q none acts =
-    let full : history_full q ≡ None = first_some-none (refusals q) 5 (history_full q) none refl in
+    let full : history_full q ≡ None = first_some-none (refusals q) 7 (history_full q) none refl in
     let room : nat_le q.limits.history (length q.history) ≡ false = and_right (makes_act q.command) (nat_le q.limits.history (length q.history)) acts (where_-none _ HistoryFull full) in
     grind (arith, nat_tests, room)
 
 deposit-within : (held : ℕ) (command : Command) → held ≤ MAX_AMOUNT → is_above_vault held command ≡ false → held + deposit_of command ≤ MAX_AMOUNT
 deposit-within held (Deposit to amount) funded below = grind (arith, nat_tests, below)
 deposit-within held (Prepare oracle question slots) funded below = omega arith
+deposit-within held (Split parent condition sets amount) funded below = omega arith
 deposit-within held (Balance holder key) funded below = omega arith
 deposit-within held Vault funded below = omega arith
 
@@ -46,7 +60,7 @@ deposit-within held Vault funded below = omega arith
 pub accepted-vault : (q : Question) → verdict q ≡ None → vault q.history ≤ MAX_AMOUNT → vault q.history + deposit_of q.command ≤ MAX_AMOUNT
 unfolding verdict
 accepted-vault q none funded =
-    let limit : vault_limit q ≡ None = first_some-none (refusals q) 4 (vault_limit q) none refl in
+    let limit : vault_limit q ≡ None = first_some-none (refusals q) 5 (vault_limit q) none refl in
     deposit-within (vault q.history) q.command funded (where_-none _ (VaultLimit (vault q.history)) limit)
 
 -- an accepted command prepares no condition again, and finds room in the table
@@ -57,3 +71,12 @@ accepted-new q none = where_-none _ AlreadyPrepared (first_some-none (refusals q
 pub accepted-table : (q : Question) → verdict q ≡ None → is_above_table q.limits.conditions (conditions q.history) q.command ≡ false
 unfolding verdict
 accepted-table q none = where_-none _ TableFull (first_some-none (refusals q) 3 (table_full q) none refl)
+
+map-none : {X Y : Type 0} (f : X → Y) (o : Option X) → option_map f o ≡ None → o ≡ None
+map-none f None none = refl
+map-none f (Some x) none = cc
+
+-- an accepted command leaves every supply within its limit
+pub accepted-supply : (q : Question) → verdict q ≡ None → oversupplied (supply q.history) (postings_of q.account q.command) ≡ None
+unfolding verdict
+accepted-supply q none = map-none SupplyLimit (oversupplied (supply q.history) (postings_of q.account q.command)) (first_some-none (refusals q) 6 (supply_limit q) none refl)

@@ -1,19 +1,13 @@
 -- What is read off a history, in one go over its acts: the conditions, and what was posted.
 -- Source: Gnosis Conditional Tokens, developer documentation.
-use Rattle.std.specs.Prelude.{◌≡◌, ℕ, List, [], ◌∷◌, ◌++◌, fold}
+use Rattle.std.specs.Prelude.{◌≡◌, ℕ, List, [], ◌∷◌, ◌++◌, fold, map}
 use Rattle.std.proofs.lemmas.List.Sums.{fold-append}
 use Rattle.settle_core.specs.declared.command_words.command.Command.{Command}
-use Rattle.settle_core.specs.declared.command_words.command.Command.TheVariants.{Deposit, Prepare, Balance, Vault}
+use Rattle.settle_core.specs.declared.command_words.command.Command.TheVariants.{Deposit, Prepare, Split, Balance, Vault}
 use Rattle.settle_core.specs.declared.command_words.act.Act.{Act}
-use Rattle.settle_core.specs.Keys.{Collection, root}
+use Rattle.settle_core.specs.declared.ledger_book.posting.Posting.{Posting}
+use Rattle.settle_core.specs.Keys.{Collection, root, set_of}
 use Rattle.settle_core.specs.declared.condition_table.facts.Facts.{Facts}
-
--- one entry of the ledger: what is paid to an account's position in a collection, and what is taken from it
-pub record Posting : Type 0 where
-  pub account : ℕ
-  pub collection : Collection
-  pub paid : ℕ
-  pub taken : ℕ
 
 -- the conditions by their numbers, and what was posted, the oldest first
 pub record Book : Type 0 where
@@ -23,24 +17,37 @@ pub record Book : Type 0 where
 abbrev pub blank : Book
 blank = record { conditions = []; postings = [] }
 
--- the conditions after a command that was accepted
-abbrev pub prepared_after : Command → List Facts → List Facts
-prepared_after (Deposit to amount) prepared = prepared
-prepared_after (Prepare oracle question slots) prepared = prepared ++ record { oracle = oracle; question = question; slots = slots } ∷ []
-prepared_after (Balance holder key) prepared = prepared
-prepared_after Vault prepared = prepared
+-- an amount that is paid to an account's position, and one that is taken from it
+abbrev pub credit : ℕ → Collection → ℕ → Posting
+credit a k amount = record { account = a; collection = k; paid = amount; taken = 0 }
 
--- what was posted after it
-abbrev pub posted_after : Command → List Posting → List Posting
-posted_after (Deposit to amount) posted = posted ++ record { account = to; collection = root; paid = amount; taken = 0 } ∷ []
-posted_after (Prepare oracle question slots) posted = posted
-posted_after (Balance holder key) posted = posted
-posted_after Vault posted = posted
+abbrev pub debit : ℕ → Collection → ℕ → Posting
+debit a k amount = record { account = a; collection = k; paid = 0; taken = amount }
+
+-- what a split posts: it takes an amount of cash, and pays as much of each of the sets
+abbrev pub split_postings : ℕ → ℕ → List ℕ → ℕ → List Posting
+split_postings a condition sets amount = debit a root amount ∷ map (λ set. credit a (set_of condition set) amount) sets
+
+-- what a command of an account posts where it is accepted
+abbrev pub postings_of : ℕ → Command → List Posting
+postings_of a (Deposit to amount) = credit to root amount ∷ []
+postings_of a (Prepare oracle question slots) = []
+postings_of a (Split parent condition sets amount) = split_postings a condition sets amount
+postings_of a (Balance holder key) = []
+postings_of a Vault = []
+
+-- the conditions that a command prepares where it is accepted
+abbrev pub prepared_by : Command → List Facts
+prepared_by (Deposit to amount) = []
+prepared_by (Prepare oracle question slots) = record { oracle = oracle; question = question; slots = slots } ∷ []
+prepared_by (Split parent condition sets amount) = []
+prepared_by (Balance holder key) = []
+prepared_by Vault = []
 
 abbrev pub entered : Book → Act → Book
 entered book act = record {
-  conditions = prepared_after act.command book.conditions;
-  postings = posted_after act.command book.postings;
+  conditions = book.conditions ++ prepared_by act.command;
+  postings = book.postings ++ postings_of act.account act.command;
 }
 
 -- the book of a history, act by act

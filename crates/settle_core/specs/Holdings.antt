@@ -1,10 +1,8 @@
 -- What contracts see of a ledger.
-use Rattle.std.specs.Prelude.{◌==◌, ℕ, ◌+◌, ◌≤◌, ⊤, ◌&&◌, Bool, List, [], ◌∷◌, if◌then◌else◌}
-use Rattle.condition_sets.specs.declared.amount.TheConstants.{MAX_AMOUNT}
-use Rattle.settle_core.specs.Keys.{Collection, root, same_collection}
-use Rattle.settle_core.specs.declared.command_words.command.Command.{Command}
-use Rattle.settle_core.specs.declared.command_words.command.Command.TheVariants.{Deposit, Prepare, Balance, Vault}
+use Rattle.std.specs.Prelude.{◌≡◌, ◌==◌, ℕ, ◌+◌, ◌-◌, ◌&&◌, Bool, List, [], ◌∷◌, sum_by, if◌then◌else◌}
+use Rattle.settle_core.specs.Keys.{Collection, same_collection}
 use Rattle.settle_core.specs.declared.ledger_book.holding.Holding.{Holding}
+use Rattle.settle_core.specs.declared.ledger_book.posting.Posting.{Posting}
 
 -- the balances, what the vault holds, and for how many balances more there is room
 pub record Holdings : Type 0 where
@@ -24,22 +22,28 @@ amount_in a k (h ∷ hs) = if is_at a k h then h.amount else amount_in a k hs
 abbrev pub amount_at : Holdings → ℕ → Collection → ℕ
 amount_at l a k = amount_in a k l.balances
 
--- the balances after an amount is paid to an account's position
-abbrev pub credited : ℕ → Collection → ℕ → List Holding → List Holding
-credited a k amount [] = record { account = a; collection = k; amount = amount } ∷ []
-credited a k amount (h ∷ hs) =
-    if is_at a k h then record { account = h.account; collection = h.collection; amount = h.amount + amount } ∷ hs else h ∷ credited a k amount hs
+-- what a balance adds to the supply of a collection
+abbrev pub part_of : Collection → Holding → ℕ
+part_of k h = if same_collection h.collection k then h.amount else 0
 
--- what a deposit pays fits the balance that it is paid to
-abbrev pub deposit_fits : Command → List Holding → Type 0
-deposit_fits (Deposit to amount) held = amount_in to root held + amount ≤ MAX_AMOUNT
-deposit_fits (Prepare oracle question slots) held = ⊤
-deposit_fits (Balance holder key) held = ⊤
-deposit_fits Vault held = ⊤
+-- what all accounts hold of a collection
+abbrev pub supply_in : Collection → List Holding → ℕ
+supply_in k hs = sum_by (part_of k) hs
 
--- the balances after a command that was accepted
-abbrev pub held_after : Command → List Holding → List Holding
-held_after (Deposit to amount) held = credited to root amount held
-held_after (Prepare oracle question slots) held = held
-held_after (Balance holder key) held = held
-held_after Vault held = held
+abbrev pub supply_at : Holdings → Collection → ℕ
+supply_at l k = supply_in k l.balances
+
+-- two ledgers hold the same, whatever their room
+pub record HoldSame (old new : Holdings) : Type 0 where
+  pub balances : (a : ℕ) (k : Collection) → amount_at new a k ≡ amount_at old a k
+  pub supplies : (k : Collection) → supply_at new k ≡ supply_at old k
+  pub vault : new.vault ≡ old.vault
+
+-- a balance after a posting to it
+abbrev pub posted_to : Posting → Holding → Holding
+posted_to p h = record { account = h.account; collection = h.collection; amount = h.amount + p.paid - p.taken }
+
+-- the balances after a posting
+abbrev pub posted_in : Posting → List Holding → List Holding
+posted_in p [] = record { account = p.account; collection = p.collection; amount = p.paid - p.taken } ∷ []
+posted_in p (h ∷ hs) = if is_at p.account p.collection h then posted_to p h ∷ hs else h ∷ posted_in p hs

@@ -8,9 +8,11 @@ pub mod Keys
 pub mod Legal
 pub mod Limits
 pub mod Planned
+pub mod Planning
 pub mod Postings
 pub mod Refusal
 pub mod Reply
+pub mod Staging
 pub mod State
 pub mod Table
 pub mod Verdict

@@ -2,9 +2,11 @@
 use Rattle.std.specs.Prelude.{Option}
 use Rattle.settle_core.specs.declared.command_words.act.Act.{Act}
 use Rattle.settle_core.specs.declared.command_words.reply.Reply.{Reply}
+use Rattle.settle_core.specs.Staging.{Changes}
 
--- the act to be, the copy of it until that is taken, and the reply
+-- the act to be, the copy of it until that is taken, the changes that it makes, and the reply
 pub record Planned : Type 0 where
   pub act : Act
   pub copy : Option Act
+  pub changes : Changes
   pub reply : Reply

@@ -1,10 +1,10 @@
 -- The replies, and what the history is after them.
 use Rattle.std.specs.Prelude.{◌≡◌, ℕ, ◌+◌, ◌≤◌, Bool, true, false, MatchBool, if◌then◌else◌, List, [], ◌∷◌, ◌++◌, length, Option, Some, None, ⊤}
 use Rattle.settle_core.specs.declared.command_words.command.Command.{Command}
-use Rattle.settle_core.specs.declared.command_words.command.Command.TheVariants.{Deposit, Prepare, Balance, Vault}
+use Rattle.settle_core.specs.declared.command_words.command.Command.TheVariants.{Deposit, Prepare, Split, Balance, Vault}
 use Rattle.settle_core.specs.declared.command_words.act.Act.{Act}
 use Rattle.settle_core.specs.declared.command_words.refusal.Refusal.{Refusal}
-use Rattle.settle_core.specs.declared.command_words.refusal.Refusal.TheVariants.{NotAllowed, NoCondition, AlreadyPrepared, TableFull, VaultLimit, HistoryFull, Memory}
+use Rattle.settle_core.specs.declared.command_words.refusal.Refusal.TheVariants.{NotAllowed, NoCondition, AlreadyPrepared, TableFull, Unfunded, VaultLimit, SupplyLimit, HistoryFull, Memory}
 use Rattle.settle_core.specs.declared.command_words.reply.Reply.{Reply}
 use Rattle.settle_core.specs.declared.command_words.reply.Reply.TheVariants.{Done, Prepared, Balanced, Vaulted, Refused, Bad}
 use Rattle.settle_core.specs.declared.limits.TheConstants.{MAX_HISTORY}
@@ -17,6 +17,7 @@ use Rattle.settle_core.specs.Verdict.{Question, verdict}
 abbrev pub accepted_reply : List Act → Command → Reply
 accepted_reply history (Deposit to amount) = Done (length history)
 accepted_reply history (Prepare oracle question slots) = Prepared (length (conditions history)) (length history)
+accepted_reply history (Split parent condition sets amount) = Done (length history)
 accepted_reply history (Balance holder key) = Balanced (balance history holder key) (length history)
 accepted_reply history Vault = Vaulted (length history) (vault history)
 
@@ -50,7 +51,9 @@ is_no_memory_refusal NotAllowed = false
 is_no_memory_refusal NoCondition = false
 is_no_memory_refusal AlreadyPrepared = false
 is_no_memory_refusal TableFull = false
+is_no_memory_refusal (Unfunded have place) = false
 is_no_memory_refusal (VaultLimit vault) = false
+is_no_memory_refusal (SupplyLimit supply) = false
 is_no_memory_refusal HistoryFull = false
 
 -- whether a reply says that memory was wanting in the exchange

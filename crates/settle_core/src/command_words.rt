@@ -8,6 +8,6 @@ mod reply;
 
 pub use act::{Act, Acts};
 pub use clock::{Clock, ListClock};
-pub use command::Command;
+pub use command::{Command, MAX_SETS};
 pub use refusal::Refusal;
 pub use reply::{LineFault, Reply};

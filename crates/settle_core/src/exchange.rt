@@ -1,32 +1,37 @@
-ghost use Rattle.std.specs.Prelude.{◌≡◌, ℕ, ◌+◌, ◌<◌, ◌≤◌, [], ◌∷◌, ◌++◌, true, false, None, Some, length, nat_le, OnOk, OnErr, IfOk};
+ghost use Rattle.std.specs.Prelude.{◌≡◌, ℕ, ◌+◌, ◌<◌, ◌≤◌, [], ◌∷◌, ◌++◌, true, false, None, Some, length, nat_le, option_map, OnOk, OnErr, IfOk};
+ghost use Rattle.settle_core.specs.declared.command_words.refusal.Refusal.TheVariants.{SupplyLimit, HistoryFull};
 ghost use Rattle.std.specs.Result.{result_err};
 ghost use Rattle.condition_sets.specs.declared.amount.TheConstants.{MAX_AMOUNT};
 ghost use Rattle.condition_sets.specs.declared.slot_count.TheConstants.{MIN_SLOTS, MAX_SLOTS};
+ghost use Rattle.settle_core.specs.declared.command_words.command.TheConstants.{MAX_SETS};
 ghost use Rattle.settle_core.specs.Command.{makes_act, in_ranges, is_built};
-ghost use Rattle.settle_core.specs.Book.{conditions, prepared_after};
-ghost use Rattle.settle_core.specs.Holdings.{amount_at, held_after, deposit_fits};
+ghost use Rattle.settle_core.specs.Book.{conditions, prepared_by};
+ghost use Rattle.settle_core.specs.Holdings.{amount_at, supply_at};
 ghost use Rattle.settle_core.specs.Keys.{Collection};
 ghost use Rattle.settle_core.specs.Legal.{IsLegal};
 ghost use Rattle.std.specs.List.{list_any};
-ghost use Rattle.settle_core.specs.Postings.{vault, balance, deposit_of};
+ghost use Rattle.settle_core.specs.Postings.{vault, balance, supply};
 ghost use Rattle.settle_core.specs.Reply.{act_of, accepted_reply, reply_to, IsSound};
-ghost use Rattle.settle_core.specs.State.{State, asked, IsSame, IsPlanFor};
-ghost use Rattle.settle_core.specs.Verdict.{verdict, prepares_again, is_above_table, AnsweredBy};
+ghost use Rattle.settle_core.specs.State.{State, asked, IsSame, AreChangesOf, IsPlanFor};
+ghost use Rattle.settle_core.specs.Staging.{oversupplied};
+ghost use Rattle.settle_core.specs.Verdict.{verdict, where_, first_some, prepares_again, is_above_table, AnsweredBy};
 
 use crate::command_words::{Act, Acts, Command, Refusal, Reply};
 use crate::condition_table::Conditions;
-use crate::ledger_book::Ledger;
+use crate::ledger_book::{Ledger, LedgerFull, Staged};
 use crate::limits::Limits;
 use crate::plan::Plan;
+use crate::split_merge::{PlanFault, plan_split};
 use condition_sets::{
-    AccountId, ConditionId, EXCHANGE, ListOf, MAX_AMOUNT, NoMemory, OPERATOR, Pairs, SlotCount,
+    AccountId, Bits, ConditionId, EXCHANGE, ListOf, MAX_AMOUNT, NoMemory, OPERATOR, Pairs,
+    SlotCount,
 };
 use std::alloc::Global;
 use std::marker::Model;
 
 /// An exchange: the history of its acts, and what it keeps of them so that the next answer is quick.
 ///
-/// Contracts see its limits, its history and its room, the number of acts that it takes without memory.
+/// Contracts see its limits, its history, and for how many acts and postings more it has room without memory.
 #[derive(Drop)]
 pub struct Exchange {
     alloc: Global,
@@ -44,7 +49,7 @@ impl Model for Exchange {
 
     ghost use Rattle.settle_core.specs.Kept.{IsKept};
 
-    ghost view = { λ e. record { limits = e.limits; history = e.history.items; room = min (vec_capacity e.history - vec_len e.history) (min e.conditions.room e.ledger.room) } };
+    ghost view = { λ e. record { limits = e.limits; history = e.history.items; room = min (vec_capacity e.history - vec_len e.history) e.conditions.room; places = e.ledger.room } };
 
     ghost invariant = { λ e. IsKept e.limits e.conditions e.ledger e.history.items };
 }
@@ -76,12 +81,9 @@ impl Exchange {
         ensures act { IfOk result (λ plan. plan.act ≡ act_of (asked self.old account command.now now)) }
         ensures copy { IfOk result (λ plan. plan.copy ≡ Some plan.act) }
         ensures plan { IfOk result (λ plan. IsPlanFor self.new plan) }
-        ensures room { OnOk result (0 < self.new.room) }
         ensures same { IsSame self.old self.new }
     {
-        if let Some(refusal) = self.refusal_of(account, command, now) {
-            return Err(refusal);
-        }
+        let changes = self.changes_of(account, command, now)?;
         let act = Act {
             moment: now,
             account,
@@ -90,25 +92,23 @@ impl Exchange {
         let copy = act.copy(self.alloc)?;
         self.history.reserve(1)?;
         self.conditions.reserve(1)?;
-        self.ledger.reserve(1)?;
+        self.ledger.reserve(&changes)?;
         let reply = self.accepted_reply(command);
-        Ok(Plan::new(act, copy, reply))
+        Ok(Plan::new(act, copy, changes, reply))
     }
 
     /// Makes the plan's act the last of the history, and answers the plan's reply. It takes no memory.
     pub fn apply(&mut self, plan: Plan) -> Reply
-        requires plan { IsPlanFor self.old plan }
-        requires room { 0 < self.old.room }
+        requires { IsPlanFor self.old plan }
 
         ensures reply { result ≡ plan.reply }
         ensures sound { IsSound result }
         ensures history { self.new.history ≡ self.old.history ++ plan.act ∷ [] }
         ensures limits { self.new.limits ≡ self.old.limits }
-        ensures room { self.old.room ≤ self.new.room + 1 }
     {
-        let (act, reply) = plan.into_parts();
+        let (act, changes, reply) = plan.into_parts();
         prepare_for(&mut self.conditions, &act.command);
-        pay_for(self.alloc, &mut self.ledger, &act.command);
+        self.ledger.commit(changes);
         self.history.push_reserved(act);
         reply
     }
@@ -147,6 +147,7 @@ impl Exchange {
         match command {
             Command::Deposit { .. } => unreachable!(),
             Command::Prepare { .. } => unreachable!(),
+            Command::Split { .. } => unreachable!(),
             Command::Balance { of, key } => {
                 if let Some(refusal) = self.refusal_of_balance(account, *of, key, 0) {
                     return Err(refusal);
@@ -180,6 +181,7 @@ impl Exchange {
     pub fn ledger(&self) -> &Ledger
         ensures vault { result.now.vault ≡ vault self.now.history }
         ensures balances { (a : ℕ) (k : Collection) → amount_at result.now a k ≡ balance self.now.history a k }
+        ensures supplies { (k : Collection) → supply_at result.now k ≡ supply self.now.history k }
     {
         &self.ledger
     }
@@ -199,72 +201,147 @@ impl Exchange {
         ListOf::of(self.history)
     }
 
-    /// The refusal of a command, the one with the lowest number first.
-    fn refusal_of(&self, account: AccountId, command: &Command, now: u64) -> Option<Refusal>
-        requires { in_ranges command.now ≡ true }
-        ensures { result ≡ verdict (asked self.now account command.now now) }
+    /// The changes that a command makes, or its refusal, the one with the lowest number first.
+    fn changes_of(&self, account: AccountId, command: &Command, now: u64) -> Result<Staged, Refusal>
+        requires act { makes_act command.now ≡ true }
+        requires ranges { in_ranges command.now ≡ true }
+        requires built { is_built command.now ≡ true }
+
+        ensures verdict { AnsweredBy (verdict (asked self.now account command.now now)) result }
+        ensures changes { IfOk result (λ changes. AreChangesOf self.now.history account command.now changes) }
     {
         match command {
-            Command::Deposit { to, amount } => {
-                self.refusal_of_deposit(account, *to, *amount, now)
-            }
+            Command::Deposit { to, amount } => self.changes_of_deposit(account, *to, *amount, now),
             Command::Prepare {
                 oracle,
                 question,
                 slots,
-            } => self.refusal_of_prepare(account, *oracle, *question, *slots, now),
-            Command::Balance { of, key } => self.refusal_of_balance(account, *of, key, now),
-            Command::Vault => self.refusal_of_vault(account, now),
+            } => self.changes_of_prepare(account, *oracle, *question, *slots, now),
+            Command::Split {
+                parent,
+                condition,
+                sets,
+                amount,
+            } => self.changes_of_split(account, parent, *condition, sets, *amount, now),
+            Command::Balance { .. } => unreachable!(),
+            Command::Vault => unreachable!(),
         }
     }
 
     #[tactic(auto, unfolding(crate::specs::Verdict::verdict))]
-    fn refusal_of_deposit(
+    fn changes_of_deposit(
         &self,
         account: AccountId,
         to: AccountId,
         amount: u64,
         now: u64,
-    ) -> Option<Refusal>
-        ensures { result ≡ verdict (asked self.now account (Command.Deposit to amount) now) }
+    ) -> Result<Staged, Refusal>
+        requires { amount ≤ MAX_AMOUNT }
+
+        ensures verdict { AnsweredBy (verdict (asked self.now account (Command.Deposit to amount) now)) result }
+        ensures changes { IfOk result (λ changes. AreChangesOf self.now.history account (Command.Deposit to amount) changes) }
     {
         if account.get() != OPERATOR || to.get() == EXCHANGE {
-            return Some(Refusal::NotAllowed);
+            return Err(Refusal::NotAllowed);
         }
         let vault = self.ledger.vault();
         if amount > MAX_AMOUNT - vault {
-            return Some(Refusal::VaultLimit { vault });
+            return Err(Refusal::VaultLimit { vault });
         }
-        if self.is_full() {
-            return Some(Refusal::HistoryFull);
+        let mut staged = Staged::new(self.alloc)?;
+        staged.credit(to, &Pairs::new(self.alloc), amount)?;
+        staged.change_vault(i128::from(amount));
+        if let Some(refusal) = self.refusal_at_last(&staged) {
+            return Err(refusal);
         }
-        None
+        Ok(staged)
     }
 
     #[tactic(auto, unfolding(crate::specs::Verdict::verdict))]
-    fn refusal_of_prepare(
+    fn changes_of_prepare(
         &self,
         account: AccountId,
         oracle: AccountId,
         question: u64,
         slots: u8,
         now: u64,
-    ) -> Option<Refusal>
+    ) -> Result<Staged, Refusal>
         requires at_least { MIN_SLOTS ≤ slots }
         requires at_most { slots ≤ MAX_SLOTS }
-        ensures { result ≡ verdict (asked self.now account (Command.Prepare oracle question slots) now) }
+
+        ensures verdict { AnsweredBy (verdict (asked self.now account (Command.Prepare oracle question slots) now)) result }
+        ensures changes { IfOk result (λ changes. AreChangesOf self.now.history account (Command.Prepare oracle question slots) changes) }
     {
         if account.get() == EXCHANGE || oracle.get() == EXCHANGE {
-            return Some(Refusal::NotAllowed);
+            return Err(Refusal::NotAllowed);
         }
         let Some(slots) = SlotCount::new(slots) else {
             unreachable!()
         };
         if self.conditions.find(oracle, question, slots).is_some() {
-            return Some(Refusal::AlreadyPrepared);
+            return Err(Refusal::AlreadyPrepared);
         }
         if self.conditions.len() >= self.limits.conditions() {
-            return Some(Refusal::TableFull);
+            return Err(Refusal::TableFull);
+        }
+        if self.is_full() {
+            return Err(Refusal::HistoryFull);
+        }
+        Ok(Staged::new(self.alloc)?)
+    }
+
+    #[tactic(auto, unfolding(crate::specs::Verdict::verdict))]
+    fn changes_of_split(
+        &self,
+        account: AccountId,
+        parent: &Pairs,
+        condition: ConditionId,
+        sets: &Bits,
+        amount: u64,
+        now: u64,
+    ) -> Result<Staged, Refusal>
+        requires sets { length sets.now ≤ MAX_SETS }
+        requires amount { amount ≤ MAX_AMOUNT }
+
+        ensures verdict { AnsweredBy (verdict (asked self.now account (Command.Split parent.now condition sets.now amount) now)) result }
+        ensures changes { IfOk result (λ changes. AreChangesOf self.now.history account (Command.Split parent.now condition sets.now amount) changes) }
+    {
+        if account.get() == EXCHANGE {
+            return Err(Refusal::NotAllowed);
+        }
+        let prepared = self.conditions.len();
+        if names_none(prepared, parent.as_slice()) || prepared <= condition.get() {
+            return Err(Refusal::NoCondition);
+        }
+        let mut staged = Staged::new(self.alloc)?;
+        let planned = plan_split(
+            self.alloc,
+            &mut staged,
+            &self.ledger,
+            account,
+            condition,
+            sets.as_slice(),
+            amount,
+        );
+        match planned {
+            Ok(()) => {}
+            Err(PlanFault::Short { have, place }) => {
+                return Err(Refusal::Unfunded { have, place });
+            }
+            Err(PlanFault::Memory) => return Err(Refusal::Memory),
+        }
+        if let Some(refusal) = self.refusal_at_last(&staged) {
+            return Err(refusal);
+        }
+        Ok(staged)
+    }
+
+    /// The refusal of changes that are staged: a supply above its limit, or a full history.
+    fn refusal_at_last(&self, staged: &Staged) -> Option<Refusal>
+        ensures { result ≡ first_some (option_map SupplyLimit (oversupplied (supply self.now.history) staged.now.postings) ∷ where_ (nat_le self.now.limits.history (length self.now.history)) HistoryFull ∷ []) }
+    {
+        if let Err(LedgerFull::Supply { supply }) = self.ledger.admits(staged) {
+            return Some(Refusal::SupplyLimit { supply });
         }
         if self.is_full() {
             return Some(Refusal::HistoryFull);
@@ -321,6 +398,7 @@ impl Exchange {
                 Some(condition) => Reply::Prepared { condition, lsn },
                 None => unreachable!(),
             },
+            Command::Split { .. } => Reply::Done { lsn },
             Command::Balance { .. } => unreachable!(),
             Command::Vault => unreachable!(),
         }
@@ -341,7 +419,7 @@ fn prepare_for(conditions: &mut Conditions, command: &Command)
     requires within { is_above_table conditions.old.limit conditions.old.facts command.now ≡ false }
     requires room { 0 < conditions.old.room }
 
-    ensures conditions { conditions.new.facts ≡ prepared_after command.now conditions.old.facts }
+    ensures conditions { conditions.new.facts ≡ conditions.old.facts ++ prepared_by command.now }
     ensures limit { conditions.new.limit ≡ conditions.old.limit }
     ensures room { conditions.old.room ≤ conditions.new.room + 1 }
 {
@@ -357,27 +435,7 @@ fn prepare_for(conditions: &mut Conditions, command: &Command)
             None => unreachable!(),
         },
         Command::Deposit { .. } => {}
-        Command::Balance { .. } => {}
-        Command::Vault => {}
-    }
-}
-
-/// Pays what an accepted command pays.
-fn pay_for(alloc: Global, ledger: &mut Ledger, command: &Command)
-    requires vault { ledger.old.vault + deposit_of command.now ≤ MAX_AMOUNT }
-    requires fits { deposit_fits command.now ledger.old.balances }
-    requires room { 0 < ledger.old.room }
-
-    ensures vault { ledger.new.vault ≡ ledger.old.vault + deposit_of command.now }
-    ensures balances { ledger.new.balances ≡ held_after command.now ledger.old.balances }
-    ensures room { ledger.old.room ≤ ledger.new.room + 1 }
-{
-    match command {
-        Command::Deposit { to, amount } => {
-            ledger.pay_in(*amount);
-            ledger.credit(*to, Pairs::new(alloc), *amount);
-        }
-        Command::Prepare { .. } => {}
+        Command::Split { .. } => {}
         Command::Balance { .. } => {}
         Command::Vault => {}
     }

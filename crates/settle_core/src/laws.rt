@@ -15,7 +15,7 @@ pub fn lowest_refusal()
     ensures none { (q : Question) (refusal : Refusal) → verdict q ≡ None → Applies q refusal → ⊥ }
 {}
 
-/// The vault holds all the cash of all accounts, and nothing else.
-pub fn cash_is_the_vault()
-    ensures { (history : List Act) → supply history root ≡ vault history }
+/// The cash of all accounts together is at most what the vault holds.
+pub fn cash_is_covered()
+    ensures { (history : List Act) → supply history root ≤ vault history }
 {}

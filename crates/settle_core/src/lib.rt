@@ -12,13 +12,17 @@ pub mod laws;
 mod ledger_book;
 mod limits;
 mod plan;
+mod split_merge;
 
-pub use command_words::{Act, Acts, Clock, Command, LineFault, ListClock, Refusal, Reply};
+pub use command_words::{
+    Act, Acts, Clock, Command, LineFault, ListClock, MAX_SETS, Refusal, Reply,
+};
 pub use condition_table::{Conditions, Facts};
 pub use exchange::Exchange;
-pub use ledger_book::Ledger;
+pub use ledger_book::{DebitFault, Holding, Ledger, LedgerFull, Posting, Staged};
 pub use limits::{Limits, MAX_HISTORY};
 pub use plan::Plan;
+pub use split_merge::{PlanFault, plan_split};
 
 #[cfg(test)]
 mod tests;

@@ -1,13 +1,15 @@
 ghost use Rattle.std.specs.Prelude.{◌≡◌, None, Some, IsSome};
 
 use crate::command_words::{Act, Reply};
+use crate::ledger_book::Staged;
 use std::marker::Model;
 
 /// An accepted command that is ready to become the next act, with the reply to it.
-#[derive(Debug, Drop)]
+#[derive(Drop)]
 pub struct Plan {
     act: Act,
     copy: Option<Act>,
+    changes: Staged,
     reply: Reply,
 }
 
@@ -16,17 +18,18 @@ impl Model for Plan {
 
     ghost Value = { Planned };
 
-    ghost view = { λ p. record { act = p.act; copy = p.copy; reply = p.reply } };
+    ghost view = { λ p. record { act = p.act; copy = p.copy; changes = p.changes; reply = p.reply } };
 }
 
 impl Plan {
-    /// The plan of an act, with a copy of it and the reply.
-    pub(crate) fn new(act: Act, copy: Act, reply: Reply) -> Plan
-        ensures { result ≡ record { act = act; copy = Some copy; reply = reply } }
+    /// The plan of an act, with a copy of it, its changes and the reply.
+    pub(crate) fn new(act: Act, copy: Act, changes: Staged, reply: Reply) -> Plan
+        ensures { result ≡ record { act = act; copy = Some copy; changes = changes; reply = reply } }
     {
         Plan {
             act,
             copy: Some(copy),
+            changes,
             reply,
         }
     }
@@ -50,11 +53,12 @@ impl Plan {
         }
     }
 
-    /// The act and the reply.
-    pub(crate) fn into_parts(self) -> (Act, Reply)
+    /// The act, its changes and the reply.
+    pub(crate) fn into_parts(self) -> (Act, Staged, Reply)
         ensures act { result.0 ≡ self.act }
-        ensures reply { result.1 ≡ self.reply }
+        ensures changes { result.1 ≡ self.changes }
+        ensures reply { result.2 ≡ self.reply }
     {
-        (self.act, self.reply)
+        (self.act, self.changes, self.reply)
     }
 }

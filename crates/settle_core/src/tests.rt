@@ -1,5 +1,5 @@
 use super::*;
-use condition_sets::{AccountId, ConditionId, NoMemory, Pairs};
+use condition_sets::{AccountId, Bits, ConditionId, NoMemory, Pairs};
 use std::alloc::Global;
 use std::process::Abort;
 use std::test::Fail;
@@ -23,6 +23,21 @@ fn prepare(oracle: u16, question: u64) -> Command {
         question,
         slots: 2,
     }
+}
+
+fn split(
+    alloc: Global,
+    parent: &[(u16, u32)],
+    condition: u16,
+    sets: &[u32],
+    amount: u64,
+) -> Result<Command, Fail> {
+    Ok(Command::Split {
+        parent: Pairs::of(Vec::from_slice(alloc, parent)?),
+        condition: ConditionId::new(condition).ok_or("no condition")?,
+        sets: Bits::of(Vec::from_slice(alloc, sets)?),
+        amount,
+    })
 }
 
 fn balance(alloc: Global, of: u16, pairs: &[(u16, u32)]) -> Result<Command, Fail> {
@@ -62,7 +77,10 @@ fn is_deposit(act: &Act, moment: u64, to: u16, amount: u64) -> bool {
             to: given_to,
             amount: given,
         } => given_to.get() == to && *given == amount,
-        Command::Prepare { .. } | Command::Balance { .. } | Command::Vault => false,
+        Command::Prepare { .. }
+        | Command::Split { .. }
+        | Command::Balance { .. }
+        | Command::Vault => false,
     };
     act.moment == moment && act.account.get() == 0 && same_command
 }
@@ -232,6 +250,152 @@ fn a_full_table(rt: HostRuntime) -> Result<(), Fail> {
 }
 
 #[test]
+fn splits(rt: HostRuntime) -> Result<(), Fail> {
+    let alloc = rt.alloc();
+    let prepared = "Ok(Prepared { condition: ConditionId { number: 0 }, lsn: 1 })";
+    let short = "Err(Unfunded { have: 40, place: 0 })";
+    let steps = [
+        (0, deposit(2, 100), "Ok(Done { lsn: 0 })", 1, 100),
+        (2, prepare(3, 7), prepared, 2, 100),
+        (
+            2,
+            split(alloc, &[], 0, &[1, 2], 60)?,
+            "Ok(Done { lsn: 2 })",
+            3,
+            100,
+        ),
+        (2, split(alloc, &[], 0, &[1, 2], 41)?, short, 3, 100),
+        (
+            3,
+            split(alloc, &[], 0, &[1, 2], 1)?,
+            "Err(Unfunded { have: 0, place: 0 })",
+            3,
+            100,
+        ),
+        (
+            2,
+            split(alloc, &[], 1, &[1, 2], 1)?,
+            "Err(NoCondition)",
+            3,
+            100,
+        ),
+        (
+            1,
+            split(alloc, &[], 1, &[1, 2], 1)?,
+            "Err(NotAllowed)",
+            3,
+            100,
+        ),
+        (
+            2,
+            split(alloc, &[], 0, &[1, 2], 40)?,
+            "Ok(Done { lsn: 3 })",
+            4,
+            100,
+        ),
+        (
+            2,
+            split(alloc, &[], 0, &[1, 2], 1)?,
+            "Err(Unfunded { have: 0, place: 0 })",
+            4,
+            100,
+        ),
+    ];
+    let exchange = play(&rt, Limits::standard(), &steps)?;
+    let hundred = "Ok(Balanced { amount: 100, rests: 4 })";
+    let nothing = "Ok(Balanced { amount: 0, rests: 4 })";
+    let cases = [
+        (2, 2, [].as_slice(), nothing),
+        (2, 2, [(0, 1)].as_slice(), hundred),
+        (3, 2, [(0, 2)].as_slice(), hundred),
+        (3, 3, [(0, 1)].as_slice(), nothing),
+    ];
+    ask(&rt, &exchange, &cases)?;
+    for (pairs, supply) in [
+        ([].as_slice(), 0),
+        ([(0, 1)].as_slice(), 100),
+        ([(0, 2)].as_slice(), 100),
+        ([(1, 1)].as_slice(), 0),
+    ] {
+        let key = Pairs::of(Vec::from_slice(alloc, pairs)?);
+        assert_eq!(rt; exchange.ledger().supply(&key), supply, "{key:?}");
+    }
+    Ok(())
+}
+
+#[test]
+fn splits_at_the_limit(rt: HostRuntime) -> Result<(), Fail> {
+    let alloc = rt.alloc();
+    let prepared = "Ok(Prepared { condition: ConditionId { number: 0 }, lsn: 1 })";
+    let steps = [
+        (
+            0,
+            deposit(2, FULL_VAULT),
+            "Ok(Done { lsn: 0 })",
+            1,
+            FULL_VAULT,
+        ),
+        (2, prepare(3, 7), prepared, 2, FULL_VAULT),
+        (
+            2,
+            split(alloc, &[], 0, &[1, 2], FULL_VAULT)?,
+            "Ok(Done { lsn: 2 })",
+            3,
+            FULL_VAULT,
+        ),
+    ];
+    play(&rt, Limits::standard(), &steps)?;
+    for (parent, sets, amount, in_ranges, is_built) in [
+        ([].as_slice(), [1, 2].as_slice(), FULL_VAULT, true, true),
+        (
+            [].as_slice(),
+            [1, 2].as_slice(),
+            FULL_VAULT + 1,
+            false,
+            true,
+        ),
+        ([].as_slice(), [1, 2].as_slice(), 0, false, true),
+        ([].as_slice(), [2, 1].as_slice(), 1, true, false),
+        ([].as_slice(), [1].as_slice(), 1, true, false),
+        ([].as_slice(), [1, 2, 4].as_slice(), 1, true, false),
+        ([].as_slice(), [].as_slice(), 1, false, false),
+        ([].as_slice(), [1; 33].as_slice(), 1, false, false),
+        ([(1, 1)].as_slice(), [1, 2].as_slice(), 1, true, false),
+        ([(4_096, 1)].as_slice(), [1, 2].as_slice(), 1, false, false),
+    ] {
+        let copy = split(alloc, parent, 0, sets, amount)?.copy(alloc)?;
+        assert_eq!(rt; copy.in_ranges(), in_ranges, "{copy:?}");
+        assert_eq!(rt; copy.is_built(), is_built, "{copy:?}");
+        assert!(rt; copy.makes_act());
+    }
+    Ok(())
+}
+
+#[test]
+fn staged_changes(rt: HostRuntime) -> Result<(), Fail> {
+    let alloc = rt.alloc();
+    let mut staged = Staged::new(alloc)?;
+    let root = Pairs::new(alloc);
+    let key = Pairs::of(Vec::from_slice(alloc, &[(0, 1)])?);
+    let ledger = Ledger::new(alloc);
+    let short = staged.debit(&ledger, AccountId(2), &key, 1);
+    assert_eq!(rt; short, Err(DebitFault::Short { have: 0 }));
+    staged.credit(AccountId(2), &key, FULL_VAULT)?;
+    staged.credit(AccountId(2), &root, 5)?;
+    assert_eq!(rt; ledger.admits(&staged), Ok(()));
+    let other = staged.debit(&ledger, AccountId(3), &key, 1);
+    assert_eq!(rt; other, Err(DebitFault::Short { have: 0 }));
+    staged.credit(AccountId(3), &key, 1)?;
+    assert_eq!(rt;
+        ledger.admits(&staged),
+        Err(LedgerFull::Supply { supply: 0 })
+    );
+    assert_eq!(rt; staged.debit(&ledger, AccountId(2), &key, 1), Ok(()));
+    assert_eq!(rt; ledger.admits(&staged), Ok(()));
+    Ok(())
+}
+
+#[test]
 fn full_vault(rt: HostRuntime) -> Result<(), Fail> {
     let steps = [
         (
@@ -343,7 +507,9 @@ fn codes_and_rests(rt: HostRuntime) -> Result<(), Fail> {
         (Refusal::NoCondition, 6),
         (Refusal::AlreadyPrepared, 7),
         (Refusal::TableFull, 8),
+        (Refusal::Unfunded { have: 5, place: 0 }, 28),
         (Refusal::VaultLimit { vault: 9 }, 32),
+        (Refusal::SupplyLimit { supply: 9 }, 33),
         (Refusal::HistoryFull, 35),
         (Refusal::Memory, 37),
     ] {

@@ -1,15 +1,15 @@
-ghost use Rattle.std.specs.Prelude.{◌≡◌, if◌then◌else◌, Some, None, true, IfOk, codes, option_and_then, option_map};
+ghost use Rattle.std.specs.Prelude.{◌≡◌, [], ◌∷◌, if◌then◌else◌, Some, None, true, IfOk, codes, option_and_then, option_map};
 ghost use Rattle.serde_json.specs.View.{view, items_view};
 ghost use Rattle.serde_json.specs.Find.{get, as_array};
 ghost use Rattle.settle_core.specs.Command.{is_account, in_ranges, is_built};
-ghost use Rattle.settle_core.specs.declared.command_words.command.Command.TheVariants.{Balance};
-ghost use Rattle.exchange_top.specs.Json.{number_at, text_at, pair_in, member_count};
-ghost use Rattle.exchange_top.specs.Ranged.{ranged_account, ranged_pair, ranged_command};
-ghost use Rattle.exchange_top.specs.CommandText.{deposit_in, prepare_in, balance_in, command_in};
+ghost use Rattle.settle_core.specs.declared.command_words.command.Command.TheVariants.{Split, Balance};
+ghost use Rattle.exchange_top.specs.Json.{number_at, text_at, two_in, pair_in, pairs_in, sets_in, member_count};
+ghost use Rattle.exchange_top.specs.Ranged.{ranged_account, ranged_condition, ranged_pair, ranged_command};
+ghost use Rattle.exchange_top.specs.CommandText.{deposit_in, prepare_in, split_in, split_by, balance_in, command_in};
 ghost use Rattle.exchange_top.specs.Request.{request, ReadAs, request_in, request_by, ranged};
 
 use crate::wire_json::request::Request;
-use condition_sets::{AccountId, NoMemory, Pairs};
+use condition_sets::{AccountId, Bits, ConditionId, NoMemory, Pairs};
 use serde_json::{Category, Value};
 use settle_core::{Command, LineFault};
 use std::alloc::Global;
@@ -68,6 +68,9 @@ fn command_in(alloc: Global, value: &Value, name: &str) -> Result<Option<Command
     if name == "prepare" && members == 5 {
         return Ok(prepare_in(value));
     }
+    if name == "split" && members == 6 {
+        return split_in(alloc, value);
+    }
     if name == "balance" && members == 4 {
         return balance_in(alloc, value);
     }
@@ -103,6 +106,67 @@ fn prepare_in(value: &Value) -> Option<Command>
     }
 }
 
+fn split_in(alloc: Global, value: &Value) -> Result<Option<Command>, NoMemory>
+    ensures { IfOk result (λ command. command ≡ ranged_command (split_in (view value.now))) }
+{
+    let (Some(parent), Some(condition), Some(sets), Some(amount)) = (
+        items_at(value, "parent"),
+        number_at(value, "condition"),
+        items_at(value, "sets"),
+        number_at(value, "amount"),
+    ) else {
+        return Ok(None);
+    };
+    split_over(alloc, parent, condition, sets, amount)
+}
+
+/// A split of the parent position that these items name over the sets that these items name.
+fn split_over(
+    alloc: Global,
+    parent: &[Value],
+    condition: u64,
+    sets: &[Value],
+    amount: u64,
+) -> Result<Option<Command>, NoMemory>
+    ensures { IfOk result (λ command. command ≡ ranged_command (split_by (pairs_in (items_view parent.now)) condition (sets_in (items_view sets.now)) amount)) }
+{
+    if !parent.is_empty() {
+        return Ok(None);
+    }
+    match two_in(sets) {
+        Some((first, second)) => split_of(alloc, condition, first, second, amount),
+        None => Ok(None),
+    }
+}
+
+/// A split of cash over two sets.
+fn split_of(
+    alloc: Global,
+    condition: u64,
+    first: u64,
+    second: u64,
+    amount: u64,
+) -> Result<Option<Command>, NoMemory>
+    ensures { IfOk result (λ command. command ≡ ranged_command (Some (Split [] condition (first ∷ second ∷ []) amount))) }
+{
+    let (Some(condition), Ok(first), Ok(second)) = (
+        condition_of(condition),
+        u32::try_from(first),
+        u32::try_from(second),
+    ) else {
+        return Ok(None);
+    };
+    let mut sets = Bits::new(alloc);
+    sets.push(first)?;
+    sets.push(second)?;
+    Ok(kept(Command::Split {
+        parent: Pairs::new(alloc),
+        condition,
+        sets,
+        amount,
+    }))
+}
+
 fn balance_in(alloc: Global, value: &Value) -> Result<Option<Command>, NoMemory>
     ensures { IfOk result (λ command. command ≡ ranged_command (balance_in (view value.now))) }
 {
@@ -135,14 +199,22 @@ fn pair_in(value: &Value) -> Option<(u16, u32)>
     ensures { result ≡ ranged_pair (pair_in (view value.now)) }
 {
     let items = value.as_array()?;
-    match items.as_slice() {
-        [condition, bits] => {
-            let condition = condition.as_u64()?;
-            let bits = bits.as_u64()?;
-            match (u16::try_from(condition), u32::try_from(bits)) {
-                (Ok(condition), Ok(bits)) => Some((condition, bits)),
-                _ => None,
-            }
+    let (condition, bits) = two_in(items.as_slice())?;
+    match (u16::try_from(condition), u32::try_from(bits)) {
+        (Ok(condition), Ok(bits)) => Some((condition, bits)),
+        _ => None,
+    }
+}
+
+/// Two items that are whole numbers.
+fn two_in(items: &[Value]) -> Option<(u64, u64)>
+    ensures { result ≡ two_in (items_view items.now) }
+{
+    match items {
+        [first, second] => {
+            let first = first.as_u64()?;
+            let second = second.as_u64()?;
+            Some((first, second))
         }
         _ => None,
     }
@@ -178,6 +250,16 @@ fn account_of(number: u64) -> Option<AccountId>
 {
     match u16::try_from(number) {
         Ok(number) => Some(AccountId(number)),
+        Err(_) => None,
+    }
+}
+
+/// A condition's number, where it is one.
+fn condition_of(number: u64) -> Option<ConditionId>
+    ensures { result ≡ ranged_condition number }
+{
+    match u16::try_from(number) {
+        Ok(number) => ConditionId::new(number),
         Err(_) => None,
     }
 }

@@ -67,11 +67,27 @@ fn write_refusal(refusal: Refusal, rests: u64, into: &mut Text)
             rests,
             into,
         ),
+        Refusal::Unfunded { have, place } => {
+            into.push(b"{\"code\":28,\"error\":\"Unfunded\",\"have\":");
+            into.push_number(have);
+            into.push(b",\"place\":");
+            into.push_number(u64::from(place));
+            into.push(b",\"rests\":");
+            into.push_number(rests);
+            into.push(b"}\n");
+        }
         Refusal::VaultLimit { vault } => {
             into.push(b"{\"code\":32,\"error\":\"VaultLimit\",\"rests\":");
             into.push_number(rests);
             into.push(b",\"vault\":");
             into.push_number(vault);
+            into.push(b"}\n");
+        }
+        Refusal::SupplyLimit { supply } => {
+            into.push(b"{\"code\":33,\"error\":\"SupplyLimit\",\"rests\":");
+            into.push_number(rests);
+            into.push(b",\"supply\":");
+            into.push_number(supply);
             into.push(b"}\n");
         }
         Refusal::HistoryFull => write_plain(

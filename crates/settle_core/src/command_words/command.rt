@@ -1,12 +1,18 @@
 ghost use Rattle.std.specs.Prelude.{◌≡◌, IfOk};
-ghost use Rattle.settle_core.specs.Keys.{is_condition, is_simple};
+ghost use Rattle.settle_core.specs.Keys.{is_condition, is_simple, is_yes_and_no};
 ghost use Rattle.std.specs.List.{list_all};
+ghost use Rattle.settle_core.specs.Command.{is_sets};
 
-use condition_sets::{AccountId, MAX_AMOUNT, MAX_CONDITION, MAX_SLOTS, MIN_SLOTS, NoMemory, Pairs};
+use condition_sets::{
+    AccountId, Bits, ConditionId, MAX_AMOUNT, MAX_CONDITION, MAX_SLOTS, MIN_SLOTS, NoMemory, Pairs,
+};
 use std::alloc::Global;
 
 /// The greatest number of a question.
 pub const MAX_QUESTION: u64 = 1_000_000_000_000_000;
+
+/// The most sets that a command may name.
+pub const MAX_SETS: usize = 32;
 
 /// What a client asks, with the members of its request.
 #[derive(Debug, Drop)]
@@ -21,6 +27,13 @@ pub enum Command {
         oracle: AccountId,
         question: u64,
         slots: u8,
+    },
+    /// Takes `amount` of the parent position from the caller, and pays as much of each of the condition's sets.
+    Split {
+        parent: Pairs,
+        condition: ConditionId,
+        sets: Bits,
+        amount: u64,
     },
     /// Asks what the account `of` holds of a collection: pairs of a condition and the bits of an index set.
     Balance {
@@ -41,13 +54,15 @@ impl Command {
         match self {
             Command::Deposit { .. } => true,
             Command::Prepare { .. } => true,
+            Command::Split { .. } => true,
             Command::Balance { .. } => false,
             Command::Vault => false,
         }
     }
 
     /// Whether each member lies in its range: an amount from 1 to [`MAX_AMOUNT`], a question up to
-    /// [`MAX_QUESTION`], slots from [`MIN_SLOTS`] to [`MAX_SLOTS`], a condition up to [`MAX_CONDITION`].
+    /// [`MAX_QUESTION`], slots from [`MIN_SLOTS`] to [`MAX_SLOTS`], a condition up to [`MAX_CONDITION`], 1 to
+    /// [`MAX_SETS`] sets.
     pub fn in_ranges(&self) -> bool
         ensures { result ≡ in_ranges self.now }
     {
@@ -65,6 +80,19 @@ impl Command {
                 let _number = oracle.get();
                 *question <= MAX_QUESTION && *slots >= MIN_SLOTS && *slots <= MAX_SLOTS
             }
+            Command::Split {
+                parent,
+                condition,
+                sets,
+                amount,
+            } => {
+                // Any condition's number is in its range, as its type says.
+                let _number = condition.get();
+                names_conditions(parent.as_slice())
+                    && is_sets(sets.as_slice())
+                    && *amount >= 1
+                    && *amount <= MAX_AMOUNT
+            }
             Command::Balance { of, key } => {
                 let _number = of.get();
                 names_conditions(key.as_slice())
@@ -73,14 +101,17 @@ impl Command {
         }
     }
 
-    /// Whether the command has a form that the exchange carries out so far: conditions of two slots, and
-    /// collections of at most one condition.
+    /// Whether the command has a form that the exchange carries out so far: conditions of two slots, full splits of
+    /// cash, and keys of at most one condition.
     pub fn is_built(&self) -> bool
         ensures { result ≡ is_built self.now }
     {
         match self {
             Command::Deposit { .. } => true,
             Command::Prepare { slots, .. } => *slots == 2,
+            Command::Split { parent, sets, .. } => {
+                parent.as_slice().is_empty() && is_yes_and_no(sets.as_slice())
+            }
             Command::Balance { key, .. } => is_simple(key.as_slice()),
             Command::Vault => true,
         }
@@ -103,6 +134,17 @@ impl Command {
                 oracle: *oracle,
                 question: *question,
                 slots: *slots,
+            }),
+            Command::Split {
+                parent,
+                condition,
+                sets,
+                amount,
+            } => Ok(Command::Split {
+                parent: parent.copy(alloc)?,
+                condition: *condition,
+                sets: sets.copy(alloc)?,
+                amount: *amount,
             }),
             Command::Balance { of, key } => Ok(Command::Balance {
                 of: *of,
@@ -127,6 +169,23 @@ fn is_simple(key: &[(u16, u32)]) -> bool
     match key {
         [] => true,
         [pair] => pair.1 == 1 || pair.1 == 2,
+        _ => false,
+    }
+}
+
+/// Whether a list has as many sets as a command may name.
+fn is_sets(sets: &[u32]) -> bool
+    ensures { result ≡ is_sets sets.now }
+{
+    !sets.is_empty() && sets.len() <= MAX_SETS
+}
+
+/// Whether the sets are those of a full split of a condition of two slots.
+fn is_yes_and_no(sets: &[u32]) -> bool
+    ensures { result ≡ is_yes_and_no sets.now }
+{
+    match sets {
+        [yes, no] => *yes == 1 && *no == 2,
         _ => false,
     }
 }

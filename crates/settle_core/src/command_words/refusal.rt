@@ -15,8 +15,12 @@ pub enum Refusal {
     AlreadyPrepared,
     /// No condition more can be prepared.
     TableFull,
+    /// The account has `have` of what the command takes at `place`, and that is less than it takes.
+    Unfunded { have: u64, place: u8 },
     /// The vault, which holds `vault` units, would come to hold more than the limit.
     VaultLimit { vault: u64 },
+    /// A supply would come to be above the limit; `supply` is the present one of the least such collection.
+    SupplyLimit { supply: u64 },
     /// The history has as many acts as its limit.
     HistoryFull,
     /// Memory was wanting. It may be answered at any time, and changes nothing.
@@ -35,7 +39,9 @@ impl Refusal {
             Refusal::NoCondition => 6,
             Refusal::AlreadyPrepared => 7,
             Refusal::TableFull => 8,
+            Refusal::Unfunded { .. } => 28,
             Refusal::VaultLimit { .. } => 32,
+            Refusal::SupplyLimit { .. } => 33,
             Refusal::HistoryFull => 35,
             Refusal::Memory => 37,
         }

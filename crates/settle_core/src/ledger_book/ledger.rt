@@ -1,31 +1,48 @@
-ghost use Rattle.std.specs.Prelude.{◌≡◌, ℕ, ◌+◌, ◌<◌, ◌≤◌, [], ◌∷◌, ◌++◌, true, false, OnOk};
+ghost use Rattle.std.specs.Prelude.{◌≡◌, ℕ, pos, vec_len, vec_capacity, ◌+◌, ◌-◌, ◌<◌, ◌≤◌, ◌+ℤ◌, ◌≤ℤ◌, [], ◌∷◌, ◌++◌, true, false, None, length, OnOk, option_map};
+ghost use Rattle.std.specs.Result.{result_err};
 ghost use Rattle.condition_sets.specs.declared.amount.TheConstants.{MAX_AMOUNT};
-ghost use Rattle.settle_core.specs.Holdings.{Holdings, amount_at, amount_in, is_at, credited};
+ghost use Rattle.settle_core.specs.declared.ledger_book.staged.TheConstants.{MAX_VOLUME};
+ghost use Rattle.settle_core.specs.declared.ledger_book.ledger.LedgerFull.TheVariants.{Supply};
+ghost use Rattle.settle_core.specs.Holdings.{Holdings, HoldSame, amount_at, amount_in, supply_at, supply_in, is_at, posted_in};
+ghost use Rattle.settle_core.specs.Keys.{Collection};
+ghost use Rattle.settle_core.specs.Postings.{minted, burnt, credits, debits};
+ghost use Rattle.settle_core.specs.Staging.{volume, IsFunded, oversupplied, is_above_supply, least_from, comes_before};
 
 use crate::ledger_book::holding::Holding;
+use crate::ledger_book::moved::{burnt, minted};
+use crate::ledger_book::posting::Posting;
+use crate::ledger_book::staged::Staged;
 use condition_sets::{AccountId, MAX_AMOUNT, NoMemory, Pairs};
 use std::alloc::Global;
 use std::marker::Model;
 
 /// What each account holds of each collection, and what the vault holds.
 ///
-/// Contracts read it by `amount_at`, and see the vault and for how many balances more there is room.
+/// Contracts read it by `amount_at` and `supply_at`, and see the vault and for how many postings there is room.
 #[derive(Drop)]
 pub struct Ledger {
     balances: Vec<Holding>,
     vault: u64,
 }
 
+/// Why a ledger doesn't admit changes.
+#[derive(Clone, Copy, Debug, PartialEq, Eq)]
+pub enum LedgerFull {
+    /// A supply would be above its limit; `supply` is the present one of the least such collection.
+    Supply { supply: u64 },
+}
+
 impl Model for Ledger {
-    ghost use Rattle.std.specs.Prelude.{◌-◌, ◌≤◌, vec_len, vec_capacity};
-    ghost use Rattle.settle_core.specs.Holdings.{Holdings};
+    ghost use Rattle.std.specs.Prelude.{ℕ, ◌-◌, ◌≤◌, vec_len, vec_capacity};
+    ghost use Rattle.settle_core.specs.Holdings.{Holdings, supply_in};
+    ghost use Rattle.settle_core.specs.Keys.{Collection};
     ghost use Rattle.condition_sets.specs.declared.amount.TheConstants.{MAX_AMOUNT};
 
     ghost Value = { Holdings };
 
     ghost view = { λ l. record { balances = l.balances.items; vault = l.vault; room = vec_capacity l.balances - vec_len l.balances } };
 
-    ghost invariant = { λ l. l.vault ≤ MAX_AMOUNT };
+    ghost invariant = { λ l. (l.vault ≤ MAX_AMOUNT) × ((k : Collection) → supply_in k l.balances.items ≤ MAX_AMOUNT) };
 }
 
 impl Ledger {
@@ -42,9 +59,18 @@ impl Ledger {
 
     /// What an account holds of a collection. It takes no memory.
     pub fn balance(&self, account: AccountId, collection: &Pairs) -> u64
-        ensures { result ≡ amount_at self.now account collection.now }
+        ensures value { result ≡ amount_at self.now account collection.now }
+        ensures within { result ≤ MAX_AMOUNT }
     {
         amount_in(&self.balances, account, collection.as_slice())
+    }
+
+    /// What all accounts hold of a collection. It takes no memory.
+    pub fn supply(&self, collection: &Pairs) -> u64
+        ensures value { result ≡ supply_at self.now collection.now }
+        ensures within { result ≤ MAX_AMOUNT }
+    {
+        supply_in(&self.balances, collection.as_slice()) as u64
     }
 
     /// The collateral units in the vault. It takes no memory.
@@ -55,41 +81,83 @@ impl Ledger {
         self.vault
     }
 
-    /// Makes room for so many balances more. What is held is as it was.
-    pub fn reserve(&mut self, more: usize) -> Result<(), NoMemory>
-        ensures ok { OnOk result (more ≤ self.new.room) }
-        ensures balances { self.new.balances ≡ self.old.balances }
-        ensures vault { self.new.vault ≡ self.old.vault }
+    /// Whether the ledger may take the changes: `Supply` exactly where a supply would be above [`MAX_AMOUNT`]. It
+    /// takes no memory.
+    pub fn admits(&self, staged: &Staged) -> Result<(), LedgerFull>
+        ensures { result_err result ≡ option_map Supply (oversupplied (supply_at self.now) staged.now.postings) }
     {
-        self.balances.reserve(more)?;
+        let postings = staged.postings();
+        let mut least: Option<&Pairs> = None;
+        for posting in postings {
+            if self.would_be_above(postings, &posting.collection)
+                && comes_before(&posting.collection, least)
+            {
+                least = Some(&posting.collection);
+            }
+        }
+        match least {
+            Some(collection) => Err(LedgerFull::Supply {
+                supply: self.supply(collection),
+            }),
+            None => Ok(()),
+        }
+    }
+
+    /// Makes room for the changes. What is held is as it was.
+    pub fn reserve(&mut self, staged: &Staged) -> Result<(), NoMemory>
+        ensures ok { OnOk result (length staged.now.postings ≤ self.new.room) }
+        ensures same { HoldSame self.old self.new }
+    {
+        self.balances.reserve(staged.postings().len())?;
         Ok(())
     }
 
-    /// Pays units into the vault. It takes no memory.
-    pub fn pay_in(&mut self, amount: u64)
-        requires { self.old.vault + amount ≤ MAX_AMOUNT }
-        ensures vault { self.new.vault ≡ self.old.vault + amount }
-        ensures balances { self.new.balances ≡ self.old.balances }
-        ensures room { self.new.room ≡ self.old.room }
+    /// Carries the changes out. It takes no memory.
+    pub fn commit(&mut self, staged: Staged)
+        requires funded { IsFunded (amount_at self.old) staged.postings }
+        requires admitted { oversupplied (supply_at self.old) staged.postings ≡ None }
+        requires vault_low { pos 0 ≤ℤ (pos self.old.vault +ℤ staged.vault) }
+        requires vault_high { (pos self.old.vault +ℤ staged.vault) ≤ℤ pos MAX_AMOUNT }
+        requires room { length staged.postings ≤ self.old.room }
+
+        ensures balances { (a : ℕ) (k : Collection) → amount_at self.new a k + debits staged.postings a k ≡ amount_at self.old a k + credits staged.postings a k }
+        ensures supplies { (k : Collection) → supply_at self.new k + burnt staged.postings k ≡ supply_at self.old k + minted staged.postings k }
+        ensures vault { pos self.new.vault ≡ pos self.old.vault +ℤ staged.vault }
     {
-        self.vault += amount;
+        let (postings, change) = staged.into_parts();
+        self.vault = changed(self.vault, change);
+        post_all(&mut self.balances, postings);
     }
 
-    /// Pays an amount of a collection to an account. It takes no memory.
-    pub fn credit(&mut self, account: AccountId, collection: Pairs, amount: u64)
-        requires fits { amount_at self.old account collection + amount ≤ MAX_AMOUNT }
-        requires room { 0 < self.old.room }
-        ensures balances { self.new.balances ≡ credited account collection amount self.old.balances }
-        ensures vault { self.new.vault ≡ self.old.vault }
-        ensures room { self.old.room ≤ self.new.room + 1 }
+    /// Whether the supply of a collection would be above its limit.
+    fn would_be_above(&self, postings: &[Posting], collection: &Pairs) -> bool
+        requires { volume postings.now ≤ MAX_VOLUME }
+        ensures { result ≡ is_above_supply (supply_at self.now) postings.now collection.now }
     {
-        if !credit_in(&mut self.balances, account, collection.as_slice(), amount) {
-            self.balances.push_reserved(Holding {
-                account,
-                collection,
-                amount,
-            });
-        }
+        let key = collection.as_slice();
+        u128::from(MAX_AMOUNT) + burnt(postings, key)
+            < u128::from(self.supply(collection)) + minted(postings, key)
+    }
+}
+
+/// What the vault holds after a change.
+fn changed(vault: u64, change: i128) -> u64
+    requires low { pos 0 ≤ℤ (pos vault +ℤ change) }
+    requires high { (pos vault +ℤ change) ≤ℤ pos MAX_AMOUNT }
+
+    ensures value { pos result ≡ pos vault +ℤ change }
+    ensures within { result ≤ MAX_AMOUNT }
+{
+    (i128::from(vault) + change) as u64
+}
+
+/// Whether a collection comes before the one that was found, in the order of their pairs.
+fn comes_before(collection: &Pairs, found: Option<&Pairs>) -> bool
+    ensures { result ≡ comes_before collection.now (option_map (λ other. other.now) found.entry) }
+{
+    match found {
+        Some(other) => collection.as_slice().cmp(other.as_slice()).is_lt(),
+        None => true,
     }
 }
 
@@ -112,22 +180,68 @@ fn amount_in(balances: &[Holding], account: AccountId, collection: &[(u16, u32)]
     0
 }
 
-/// Pays an amount to a balance that is kept, and tells whether one is.
-fn credit_in(
-    balances: &mut [Holding],
-    account: AccountId,
-    collection: &[(u16, u32)],
-    amount: u64,
-) -> bool
-    requires { amount_in account collection.now balances.old + amount ≤ MAX_AMOUNT }
-    ensures found { result ≡ true → balances.new ≡ credited account collection.now amount balances.old }
-    ensures absent { result ≡ false → balances.new ++ record { account = account; collection = collection.now; amount = amount } ∷ []
-        ≡ credited account collection.now amount balances.old }
+/// What all accounts hold of a collection by these balances.
+fn supply_in(balances: &[Holding], collection: &[(u16, u32)]) -> u128
+    ensures { result ≡ supply_in collection.now balances.now }
+{
+    balances
+        .iter()
+        .map(|holding| {
+            if holding.collection.as_slice() == collection {
+                u128::from(holding.amount)
+            } else {
+                0
+            }
+        })
+        .sum()
+}
+
+/// Carries postings out one after another.
+fn post_all(balances: &mut Vec<Holding>, postings: Vec<Posting>)
+    requires volume { volume postings.items ≤ MAX_VOLUME }
+    requires within { (k : Collection) → supply_in k balances.old.items ≤ MAX_AMOUNT }
+    requires funded { IsFunded (λ a k. amount_in a k balances.old.items) postings.items }
+    requires room { length postings.items ≤ vec_capacity balances.old - vec_len balances.old }
+
+    ensures balances { (a : ℕ) (k : Collection) → amount_in a k balances.new.items + debits postings.items a k ≡ amount_in a k balances.old.items + credits postings.items a k }
+    ensures supplies { (k : Collection) → supply_in k balances.new.items + burnt postings.items k ≡ supply_in k balances.old.items + minted postings.items k }
+{
+    for posting in postings {
+        post(balances, posting);
+    }
+}
+
+/// Carries a posting out.
+fn post(balances: &mut Vec<Holding>, posting: Posting)
+    requires fits { amount_in posting.account posting.collection balances.old.items + posting.paid ≤ MAX_AMOUNT + MAX_VOLUME }
+    requires funded { posting.taken ≤ amount_in posting.account posting.collection balances.old.items + posting.paid }
+    requires room { 0 < vec_capacity balances.old - vec_len balances.old }
+
+    ensures balances { balances.new.items ≡ posted_in posting balances.old.items }
+    ensures room { vec_capacity balances.old - vec_len balances.old ≤ (vec_capacity balances.new - vec_len balances.new) + 1 }
+{
+    if !post_in(balances, &posting) {
+        balances.push_reserved(Holding {
+            account: posting.account,
+            collection: posting.collection,
+            amount: posting.paid - posting.taken,
+        });
+    }
+}
+
+/// Carries a posting out on a balance that is kept, and tells whether one is.
+fn post_in(balances: &mut [Holding], posting: &Posting) -> bool
+    requires fits { amount_in posting.now.account posting.now.collection balances.old + posting.now.paid ≤ MAX_AMOUNT + MAX_VOLUME }
+    requires funded { posting.now.taken ≤ amount_in posting.now.account posting.now.collection balances.old + posting.now.paid }
+
+    ensures found { result ≡ true → balances.new ≡ posted_in posting.now balances.old }
+    ensures none { result ≡ false → amount_in posting.now.account posting.now.collection balances.old ≡ 0 }
+    ensures absent { result ≡ false → balances.new ++ record { account = posting.now.account; collection = posting.now.collection; amount = posting.now.paid - posting.now.taken } ∷ [] ≡ posted_in posting.now balances.old }
 {
     for place in 0..balances.len() {
         let holding = &mut balances[place];
-        if is_at(holding, account, collection) {
-            holding.amount += amount;
+        if is_at(holding, posting.account, posting.collection.as_slice()) {
+            holding.amount = holding.amount + posting.paid - posting.taken;
             return true;
         }
     }
