@@ -11,6 +11,10 @@ use Rattle.settle_core.specs.declared.command_words.reply.Reply.TheVariants.{Don
 abbrev pub plain_text : List ℕ → ℕ → List ℕ
 plain_text head rests = head ++ decimal rests ++ codes "}\n"
 
+-- the text of a refusal that has one member more behind rests
+abbrev pub limit_text : List ℕ → ℕ → List ℕ → ℕ → List ℕ
+limit_text head rests member number = head ++ decimal rests ++ member ++ decimal number ++ codes "}\n"
+
 abbrev pub refusal_text : Refusal → ℕ → List ℕ
 refusal_text NotAllowed rests = plain_text (codes "{\"code\":5,\"error\":\"NotAllowed\",\"rests\":") rests
 refusal_text NoCondition rests = plain_text (codes "{\"code\":6,\"error\":\"NoCondition\",\"rests\":") rests
@@ -18,10 +22,8 @@ refusal_text AlreadyPrepared rests = plain_text (codes "{\"code\":7,\"error\":\"
 refusal_text TableFull rests = plain_text (codes "{\"code\":8,\"error\":\"TableFull\",\"rests\":") rests
 refusal_text (Unfunded have place) rests =
     codes "{\"code\":28,\"error\":\"Unfunded\",\"have\":" ++ decimal have ++ codes ",\"place\":" ++ decimal place ++ codes ",\"rests\":" ++ decimal rests ++ codes "}\n"
-refusal_text (VaultLimit vault) rests =
-    codes "{\"code\":32,\"error\":\"VaultLimit\",\"rests\":" ++ decimal rests ++ codes ",\"vault\":" ++ decimal vault ++ codes "}\n"
-refusal_text (SupplyLimit supply) rests =
-    codes "{\"code\":33,\"error\":\"SupplyLimit\",\"rests\":" ++ decimal rests ++ codes ",\"supply\":" ++ decimal supply ++ codes "}\n"
+refusal_text (VaultLimit vault) rests = limit_text (codes "{\"code\":32,\"error\":\"VaultLimit\",\"rests\":") rests (codes ",\"vault\":") vault
+refusal_text (SupplyLimit supply) rests = limit_text (codes "{\"code\":33,\"error\":\"SupplyLimit\",\"rests\":") rests (codes ",\"supply\":") supply
 refusal_text HistoryFull rests = plain_text (codes "{\"code\":35,\"error\":\"HistoryFull\",\"rests\":") rests
 refusal_text Memory rests = codes "{\"code\":37,\"error\":\"Memory\"}\n"
 

@@ -1,5 +1,6 @@
 ghost use Rattle.std.specs.Prelude.{◌≡◌, ◌+◌, ◌≤◌, [], ◌++◌, length};
-ghost use Rattle.exchange_top.specs.ReplyText.{text_of, refusal_text, plain_text, fault_text};
+ghost use Rattle.exchange_top.specs.ReplyText.{text_of, refusal_text, plain_text, limit_text, fault_text};
+ghost use Rattle.settle_core.specs.declared.command_words.refusal.Refusal.TheVariants.{Unfunded};
 
 use crate::wire_json::text::Text;
 use settle_core::{LineFault, Refusal, Reply};
@@ -67,29 +68,21 @@ fn write_refusal(refusal: Refusal, rests: u64, into: &mut Text)
             rests,
             into,
         ),
-        Refusal::Unfunded { have, place } => {
-            into.push(b"{\"code\":28,\"error\":\"Unfunded\",\"have\":");
-            into.push_number(have);
-            into.push(b",\"place\":");
-            into.push_number(u64::from(place));
-            into.push(b",\"rests\":");
-            into.push_number(rests);
-            into.push(b"}\n");
-        }
-        Refusal::VaultLimit { vault } => {
-            into.push(b"{\"code\":32,\"error\":\"VaultLimit\",\"rests\":");
-            into.push_number(rests);
-            into.push(b",\"vault\":");
-            into.push_number(vault);
-            into.push(b"}\n");
-        }
-        Refusal::SupplyLimit { supply } => {
-            into.push(b"{\"code\":33,\"error\":\"SupplyLimit\",\"rests\":");
-            into.push_number(rests);
-            into.push(b",\"supply\":");
-            into.push_number(supply);
-            into.push(b"}\n");
-        }
+        Refusal::Unfunded { have, place } => write_unfunded(have, place, rests, into),
+        Refusal::VaultLimit { vault } => write_limit(
+            b"{\"code\":32,\"error\":\"VaultLimit\",\"rests\":",
+            rests,
+            b",\"vault\":",
+            vault,
+            into,
+        ),
+        Refusal::SupplyLimit { supply } => write_limit(
+            b"{\"code\":33,\"error\":\"SupplyLimit\",\"rests\":",
+            rests,
+            b",\"supply\":",
+            supply,
+            into,
+        ),
         Refusal::HistoryFull => write_plain(
             b"{\"code\":35,\"error\":\"HistoryFull\",\"rests\":",
             rests,
@@ -106,6 +99,33 @@ fn write_plain(head: &[u8], rests: u64, into: &mut Text)
     ensures { into.new ≡ plain_text head.now rests }
 {
     into.push(head);
+    into.push_number(rests);
+    into.push(b"}\n");
+}
+
+/// The text of a refusal that has one member more behind `rests`.
+fn write_limit(head: &[u8], rests: u64, member: &[u8], number: u64, into: &mut Text)
+    requires empty { into.old ≡ [] }
+    requires short_head { length head.now ≤ 100 }
+    requires short_member { length member.now ≤ 100 }
+    ensures { into.new ≡ limit_text head.now rests member.now number }
+{
+    into.push(head);
+    into.push_number(rests);
+    into.push(member);
+    into.push_number(number);
+    into.push(b"}\n");
+}
+
+fn write_unfunded(have: u64, place: u8, rests: u64, into: &mut Text)
+    requires { into.old ≡ [] }
+    ensures { into.new ≡ refusal_text (Unfunded have place) rests }
+{
+    into.push(b"{\"code\":28,\"error\":\"Unfunded\",\"have\":");
+    into.push_number(have);
+    into.push(b",\"place\":");
+    into.push_number(u64::from(place));
+    into.push(b",\"rests\":");
     into.push_number(rests);
     into.push(b"}\n");
 }
