@@ -1,6 +1,6 @@
 -- The cash of all accounts together is within the vault.
 use Rattle.std.proofs.Common.{◌≡◌, ℕ, ◌+◌, ◌≤◌, List, [], ◌∷◌, refl, arith}
-use Rattle.std.specs.Prelude.{sum_by, fold, map, cond}
+use Rattle.std.specs.Prelude.{fold, map}
 use Rattle.std.proofs.lemmas.List.Sums.{sum_by-append, sum_by-cons}
 use Rattle.settle_core.specs.declared.command_words.command.Command.{Command}
 use Rattle.settle_core.specs.declared.command_words.command.Command.TheVariants.{Deposit, Prepare, Split, Balance, Vault}

@@ -1,11 +1,11 @@
 -- What an exchange keeps goes on with each accepted act.
-use Rattle.std.proofs.Common.{◌≡◌, ℕ, ◌+◌, ◌≤◌, List, [], ◌∷◌, ◌++◌, sym, ◌∙◌, ap, arith, length, length-append, refl, false, subst, None}
+use Rattle.std.proofs.Common.{◌≡◌, ℕ, ◌+◌, ◌≤◌, List, [], ◌∷◌, ◌++◌, sym, ◌∙◌, ap, arith, length-append, refl, false, subst, None}
 use Rattle.std.specs.Prelude.{ℤ, pos, nat_abs, ◌+ℤ◌, ◌≤ℤ◌}
 use Rattle.std.proofs.lemmas.Int.{ints}
 use Rattle.condition_sets.specs.declared.amount.TheConstants.{MAX_AMOUNT}
 use Rattle.settle_core.specs.declared.command_words.act.Act.{Act}
 use Rattle.settle_core.specs.declared.condition_table.facts.Facts.{Facts}
-use Rattle.settle_core.specs.Book.{conditions, prepared_by, postings, postings_of}
+use Rattle.settle_core.specs.Book.{conditions, prepared_by, postings_of}
 use Rattle.settle_core.specs.Bounds.{Bounds}
 use Rattle.settle_core.specs.Holdings.{Holdings, HoldSame, amount_at, supply_at}
 use Rattle.settle_core.specs.Keys.{Collection}

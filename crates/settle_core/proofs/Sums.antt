@@ -1,7 +1,6 @@
 -- Sums over postings and over balances.
-use Rattle.std.proofs.Common.{◌≡◌, ℕ, ◌+◌, ◌-◌, ◌<◌, ◌≤◌, List, [], ◌∷◌, ◌++◌, Bool, true, false, refl, arith, length, take, inl, inr}
-use Rattle.std.specs.Prelude.{◌==◌, ◌&&◌, sum_by, cond, if◌then◌else◌}
-use Rattle.std.proofs.lemmas.Bool.{cases_Bool, cond-true, cond-false}
+use Rattle.std.proofs.Common.{◌≡◌, ℕ, ◌+◌, ◌≤◌, List, [], ◌∷◌, Bool, true, false, refl, arith}
+use Rattle.std.specs.Prelude.{◌==◌, ◌&&◌, cond}
 use Rattle.std.proofs.lemmas.List.Sums.{sum_by-le-sum_by, sum_by-cons}
 use Rattle.settle_core.specs.declared.ledger_book.holding.Holding.{Holding}
 use Rattle.settle_core.specs.declared.ledger_book.posting.Posting.{Posting}

@@ -1,6 +1,6 @@
 -- What accounts hold, by what was posted to them.
 -- Source: Gnosis Conditional Tokens, developer documentation.
-use Rattle.std.specs.Prelude.{◌==◌, ℕ, ◌+◌, ◌-◌, ◌≤◌, ◌&&◌, Bool, true, false, List, [], ◌∷◌, sum_by, take, if◌then◌else◌}
+use Rattle.std.specs.Prelude.{◌==◌, ℕ, ◌-◌, List, sum_by, if◌then◌else◌}
 use Rattle.settle_core.specs.declared.command_words.command.Command.{Command}
 use Rattle.settle_core.specs.declared.command_words.command.Command.TheVariants.{Deposit, Prepare, Split, Balance, Vault}
 use Rattle.settle_core.specs.declared.command_words.act.Act.{Act}

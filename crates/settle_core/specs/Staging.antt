@@ -1,5 +1,5 @@
 -- Changes that are planned before they are carried out: what they post, and whether that may be.
-use Rattle.std.specs.Prelude.{◌≡◌, ℕ, ◌+◌, ◌-◌, ◌<◌, ◌≤◌, ⊤, ℤ, ◌&&◌, Bool, true, nat_lt, if◌then◌else◌, List, [], ◌∷◌, sum_by, take, Option, Some, None, option_map, Result, Ok, Err}
+use Rattle.std.specs.Prelude.{◌≡◌, ℕ, ◌+◌, ◌<◌, ◌≤◌, ⊤, suc, ℤ, pos, negsuc, ◌+ℤ◌, ◌≤ℤ◌, ◌<ℤ◌, ◌&&◌, Bool, true, nat_lt, if◌then◌else◌, List, [], ◌∷◌, sum_by, take, Option, Some, None, option_map, Result, Ok, Err}
 use Rattle.std.specs.Ordering.{ordering_then, nat_cmp, is_lt}
 use Rattle.std.specs.declared.cmp.Ordering.{Ordering}
 use Rattle.std.specs.Cmp.Lexicographic.{slice_cmp}
@@ -7,6 +7,9 @@ use Rattle.condition_sets.specs.declared.amount.TheConstants.{MAX_AMOUNT}
 use Rattle.settle_core.specs.declared.ledger_book.posting.Posting.{Posting}
 use Rattle.settle_core.specs.declared.ledger_book.staged.DebitFault.{DebitFault}
 use Rattle.settle_core.specs.declared.ledger_book.staged.DebitFault.TheVariants.{Short, Memory}
+use Rattle.settle_core.specs.declared.ledger_book.staged.PostFault.{PostFault}
+use Rattle.settle_core.specs.declared.ledger_book.staged.PostFault.TheVariants.{Short as ShortBy, Memory as OutOfMemory}
+use Rattle.settle_core.specs.Book.{credit, debit}
 use Rattle.settle_core.specs.Keys.{Collection}
 use Rattle.settle_core.specs.Postings.{minted, burnt, credits, debits}
 
@@ -28,6 +31,17 @@ abbrev pub DebitedBy : ℕ → ℕ → Result Unit DebitFault → Type 0
 DebitedBy have amount (Ok u) = amount ≤ have
 DebitedBy have amount (Err (Short found)) = (found ≡ have) × (have < amount)
 DebitedBy have amount (Err Memory) = ⊤
+
+-- the posting of a signed change of an account's position
+abbrev pub signed_posting : ℕ → Collection → ℤ → Posting
+signed_posting a k (pos amount) = credit a k amount
+signed_posting a k (negsuc below) = debit a k (suc below)
+
+-- a signed change is staged where the position doesn't fall below 0, and is short only where it would, of what is there
+abbrev pub PostedBy : ℕ → ℤ → Result Unit PostFault → Type 0
+PostedBy have amount (Ok u) = pos 0 ≤ℤ (pos have +ℤ amount)
+PostedBy have amount (Err (ShortBy found)) = (found ≡ pos have) × ((pos have +ℤ amount) <ℤ pos 0)
+PostedBy have amount (Err OutOfMemory) = ⊤
 
 -- the order of collections, by their pairs in turn
 abbrev pub pair_cmp : ℕ × ℕ → ℕ × ℕ → Ordering

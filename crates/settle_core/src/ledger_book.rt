@@ -9,4 +9,4 @@ mod staged;
 pub use holding::Holding;
 pub use ledger::{Ledger, LedgerFull};
 pub use posting::Posting;
-pub use staged::{DebitFault, Staged};
+pub use staged::{DebitFault, PostFault, Staged};

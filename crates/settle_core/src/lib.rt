@@ -19,7 +19,7 @@ pub use command_words::{
 };
 pub use condition_table::{Conditions, Facts};
 pub use exchange::Exchange;
-pub use ledger_book::{DebitFault, Holding, Ledger, LedgerFull, Posting, Staged};
+pub use ledger_book::{DebitFault, Holding, Ledger, LedgerFull, PostFault, Posting, Staged};
 pub use limits::{Limits, MAX_HISTORY};
 pub use plan::Plan;
 pub use split_merge::{PlanFault, plan_split};

@@ -396,6 +396,20 @@ fn staged_changes(rt: HostRuntime) -> Result<(), Fail> {
 }
 
 #[test]
+fn signed_changes(rt: HostRuntime) -> Result<(), Fail> {
+    let alloc = rt.alloc();
+    let mut staged = Staged::new(alloc)?;
+    let key = Pairs::of(Vec::from_slice(alloc, &[(0, 1)])?);
+    let ledger = Ledger::new(alloc);
+    let below = staged.post(&ledger, AccountId(4), &key, -1);
+    assert_eq!(rt; below, Err(PostFault::Short { have: 0 }));
+    assert_eq!(rt; staged.post(&ledger, AccountId(4), &key, 7), Ok(()));
+    assert_eq!(rt; staged.post(&ledger, AccountId(4), &key, -7), Ok(()));
+    assert_eq!(rt; ledger.admits(&staged), Ok(()));
+    Ok(())
+}
+
+#[test]
 fn full_vault(rt: HostRuntime) -> Result<(), Fail> {
     let steps = [
         (

@@ -4,7 +4,7 @@ ghost use Rattle.settle_core.specs.Book.{credit, debit};
 ghost use Rattle.settle_core.specs.Holdings.{amount_at};
 ghost use Rattle.settle_core.specs.Keys.{Collection};
 ghost use Rattle.settle_core.specs.Postings.{credits, debits, minted, burnt};
-ghost use Rattle.settle_core.specs.Staging.{volume, IsFunded, DebitedBy};
+ghost use Rattle.settle_core.specs.Staging.{volume, signed_posting, IsFunded, DebitedBy, PostedBy};
 
 use crate::ledger_book::ledger::Ledger;
 use crate::ledger_book::moved::{credits, debits};
@@ -31,6 +31,15 @@ pub struct Staged {
 pub enum DebitFault {
     /// The account has `have` of the collection, with what is staged so far, and that is less than the debit.
     Short { have: u64 },
+    /// Memory was wanting.
+    Memory,
+}
+
+/// Why a signed change isn't staged.
+#[derive(Clone, Copy, Debug, PartialEq, Eq)]
+pub enum PostFault {
+    /// The account has `have` of the collection, with what is staged so far, and would fall below 0.
+    Short { have: i128 },
     /// Memory was wanting.
     Memory,
 }
@@ -114,6 +123,39 @@ impl Staged {
         match self.push_debit(account, collection, amount) {
             Ok(()) => Ok(()),
             Err(NoMemory) => Err(DebitFault::Memory),
+        }
+    }
+
+    /// Stages a signed change of an account's position: `Short` exactly where it would fall below 0, with what is
+    /// staged so far.
+    pub fn post(
+        &mut self,
+        ledger: &Ledger,
+        account: AccountId,
+        collection: &Pairs,
+        amount: i128,
+    ) -> Result<(), PostFault>
+        requires volume { volume self.old.postings + nat_abs amount ≤ MAX_VOLUME }
+        requires funded { IsFunded (amount_at ledger.now) self.old.postings }
+
+        ensures ok { OnOk result (self.new.postings ≡ self.old.postings ++ signed_posting account collection.now amount ∷ []) }
+        ensures err { OnErr result (self.new.postings ≡ self.old.postings) }
+        ensures short { PostedBy (amount_at ledger.now account collection.now + credits self.old.postings account collection.now - debits self.old.postings account collection.now) amount result }
+        ensures vault { self.new.vault ≡ self.old.vault }
+        ensures funded { IsFunded (amount_at ledger.now) self.new.postings }
+    {
+        if amount < 0 {
+            return match self.debit(ledger, account, collection, amount.unsigned_abs() as u64) {
+                Ok(()) => Ok(()),
+                Err(DebitFault::Short { have }) => Err(PostFault::Short {
+                    have: i128::from(have),
+                }),
+                Err(DebitFault::Memory) => Err(PostFault::Memory),
+            };
+        }
+        match self.credit(account, collection, amount as u64) {
+            Ok(()) => Ok(()),
+            Err(NoMemory) => Err(PostFault::Memory),
         }
     }
 

@@ -1,5 +1,4 @@
-use Rattle.std.proofs.Common.{◌∙◌, ◌≤◌, sym, subst, arith, List}
-use Rattle.settle_core.specs.declared.ledger_book.posting.Posting.{Posting}
+use Rattle.std.proofs.Common.{◌∙◌, sym, subst}
 use Rattle.settle_core.specs.Staging.{IsFunded}
 use Rattle.settle_core.proofs.Splits.{payments-more, payments-funded, front-within}
 use Rattle.settle_core.proofs.split_merge.credit_sets.Goals as goal

@@ -1,10 +1,10 @@
-use Rattle.std.proofs.Common.{◌≡◌, ℕ, ◌+◌, ◌≤◌, ◌++◌, ◌∷◌, [], List, length, sym, ◌∙◌, ap, subst, refl, arith, append_assoc}
+use Rattle.std.proofs.Common.{ℕ, ◌+◌, ◌≤◌, ◌++◌, ◌∷◌, [], List, length, sym, ◌∙◌, ap, arith, append_assoc}
 use Rattle.condition_sets.specs.declared.amount.TheConstants.{MAX_AMOUNT}
 use Rattle.settle_core.specs.declared.ledger_book.holding.Holding.{Holding}
 use Rattle.settle_core.specs.declared.ledger_book.posting.Posting.{Posting}
 use Rattle.settle_core.specs.Holdings.{amount_in, supply_in}
 use Rattle.settle_core.specs.Keys.{Collection}
-use Rattle.settle_core.specs.Postings.{minted, burnt, credits, debits}
+use Rattle.settle_core.specs.Postings.{burnt, debits}
 use Rattle.settle_core.proofs.Commits.{next_funded, next_fits, amounts_more, supplies_more}
 use Rattle.settle_core.proofs.Sums.{amount_within}
 use Rattle.settle_core.proofs.ledger_book.ledger.post_all.Goals as goal

@@ -1,5 +1,4 @@
-use Rattle.std.proofs.Common.{◌≡◌, ◌+◌, ◌≤◌, List, None, sym, ap, subst, arith}
-use Rattle.condition_sets.specs.declared.amount.TheConstants.{MAX_AMOUNT}
+use Rattle.std.proofs.Common.{◌≡◌, ◌+◌, List, None, sym, subst, arith}
 use Rattle.settle_core.specs.declared.ledger_book.posting.Posting.{Posting}
 use Rattle.settle_core.specs.Holdings.{Holdings, supply_at, supply_in}
 use Rattle.settle_core.specs.Keys.{Collection}

@@ -1,6 +1,4 @@
-use Rattle.std.proofs.Common.{subst, sym, refl, List}
-use Rattle.settle_core.specs.declared.ledger_book.posting.Posting.{Posting}
-use Rattle.settle_core.specs.Book.{credit}
+use Rattle.std.proofs.Common.{subst, sym, refl}
 use Rattle.settle_core.specs.Staging.{Changes, IsFunded}
 use Rattle.settle_core.proofs.Funding.{funded-credit}
 use Rattle.settle_core.proofs.ledger_book.staged.Staged.credit.Goals as goal
