@@ -1,6 +1,6 @@
 ghost use Rattle.std.specs.Prelude.{◌≡◌, ◌+◌, ◌≤◌, [], ◌++◌, length};
 ghost use Rattle.exchange_top.specs.ReplyText.{text_of, refusal_text, plain_text, limit_text, fault_text};
-ghost use Rattle.settle_core.specs.declared.command_words.refusal.Refusal.TheVariants.{Unfunded};
+ghost use Rattle.settle_core.specs.declared.command_words.refusal.Refusal.TheVariants.{Unfunded, VaultLimit, SupplyLimit};
 
 use crate::wire_json::text::Text;
 use settle_core::{LineFault, Refusal, Reply};
@@ -69,20 +69,8 @@ fn write_refusal(refusal: Refusal, rests: u64, into: &mut Text)
             into,
         ),
         Refusal::Unfunded { have, place } => write_unfunded(have, place, rests, into),
-        Refusal::VaultLimit { vault } => write_limit(
-            b"{\"code\":32,\"error\":\"VaultLimit\",\"rests\":",
-            rests,
-            b",\"vault\":",
-            vault,
-            into,
-        ),
-        Refusal::SupplyLimit { supply } => write_limit(
-            b"{\"code\":33,\"error\":\"SupplyLimit\",\"rests\":",
-            rests,
-            b",\"supply\":",
-            supply,
-            into,
-        ),
+        Refusal::VaultLimit { vault } => write_vault_limit(vault, rests, into),
+        Refusal::SupplyLimit { supply } => write_supply_limit(supply, rests, into),
         Refusal::HistoryFull => write_plain(
             b"{\"code\":35,\"error\":\"HistoryFull\",\"rests\":",
             rests,
@@ -115,6 +103,22 @@ fn write_limit(head: &[u8], rests: u64, member: &[u8], number: u64, into: &mut T
     into.push(member);
     into.push_number(number);
     into.push(b"}\n");
+}
+
+fn write_vault_limit(vault: u64, rests: u64, into: &mut Text)
+    requires { into.old ≡ [] }
+    ensures { into.new ≡ refusal_text (VaultLimit vault) rests }
+{
+    let head = b"{\"code\":32,\"error\":\"VaultLimit\",\"rests\":";
+    write_limit(head, rests, b",\"vault\":", vault, into);
+}
+
+fn write_supply_limit(supply: u64, rests: u64, into: &mut Text)
+    requires { into.old ≡ [] }
+    ensures { into.new ≡ refusal_text (SupplyLimit supply) rests }
+{
+    let head = b"{\"code\":33,\"error\":\"SupplyLimit\",\"rests\":";
+    write_limit(head, rests, b",\"supply\":", supply, into);
 }
 
 fn write_unfunded(have: u64, place: u8, rests: u64, into: &mut Text)
