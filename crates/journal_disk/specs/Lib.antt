@@ -1,0 +1,7 @@
+pub mod Drive
+pub mod Images
+pub mod Laws
+pub mod Memory
+pub mod MemoryLaws
+pub mod StepLaws
+pub mod Steps

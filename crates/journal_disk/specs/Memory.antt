@@ -1,0 +1,52 @@
+-- A disk in memory, by the calls that were made of it, the newest first.
+use Rattle.std.specs.Prelude.{◌≡◌, ◌⊎◌, ℕ, ◌≤◌, Bool, true, false, List, [], ◌∷◌, length, take}
+use Rattle.outside_faults.specs.Script.{Script}
+use Rattle.journal_disk.specs.Drive.{Drive}
+use Rattle.journal_disk.specs.Images.{IsTorn, IsCut, overlaid}
+use Rattle.journal_disk.specs.declared.call.Call.{Call}
+use Rattle.journal_disk.specs.declared.call.Call.TheVariants.{Read, Write, Cut, Sync}
+
+-- what a read gives after the calls
+abbrev pub contents : List ℕ → List Call → List ℕ
+contents first [] = first
+contents first (Read at len ok ∷ calls) = contents first calls
+contents first (Write at bytes true ∷ calls) = overlaid at bytes (contents first calls)
+contents first (Write at bytes false ∷ calls) = contents first calls
+contents first (Cut len true ∷ calls) = take len (contents first calls)
+contents first (Cut len false ∷ calls) = contents first calls
+contents first (Sync ok ∷ calls) = contents first calls
+
+-- what a crash after the calls may leave
+abbrev pub Image : List ℕ → List Call → List ℕ → Type 0
+Image first [] image = image ≡ first
+Image first (Read at len ok ∷ calls) image = Image first calls image
+Image first (Write at bytes ok ∷ calls) image = (before : List ℕ) × Image first calls before × IsTorn at (length bytes) before image
+Image first (Cut len ok ∷ calls) image = (before : List ℕ) × Image first calls before × IsCut len before image
+Image first (Sync true ∷ calls) image = image ≡ contents first calls
+Image first (Sync false ∷ calls) image = Image first calls image
+
+-- what a crash at some moment from a given one on may have left, where a moment is a number of calls
+abbrev pub ImageSince : List ℕ → List Call → ℕ → List ℕ → Type 0
+ImageSince first [] moment image = image ≡ first
+ImageSince first (call ∷ calls) moment image = Image first (call ∷ calls) image ⊎ ((moment ≤ length calls) × ImageSince first calls moment image)
+
+-- what contracts see of a disk in memory: its first bytes, its calls, how often one failed, and those that are to fail
+pub record Content : Type 0 where
+  pub first : List ℕ
+  pub calls : List Call
+  pub faults : ℕ
+  pub script : Script
+
+-- a disk of these first bytes and these calls
+abbrev pub drive_at : List ℕ → List Call → ℕ → Drive
+drive_at first calls faults = record {
+  bytes = contents first calls;
+  image = Image first calls;
+  moment = length calls;
+  image_since = ImageSince first calls;
+  faults = faults;
+  honest = true;
+}
+
+abbrev pub drive_of : Content → Drive
+drive_of c = drive_at c.first c.calls c.faults

@@ -1,0 +1,186 @@
+ghost use Rattle.std.specs.Prelude.{◌≡◌, ℕ, ◌+◌, ◌^◌, ◌≤◌, ◌<◌, [], ◌∷◌, List, length, take, get_or, min, max, All, Contains, IfOk};
+ghost use Rattle.journal_disk.specs.Images.{IsTorn, IsCut};
+ghost use Rattle.journal_disk.specs.Memory.{contents, Image};
+
+use crate::call::Call;
+use crate::changed::{front, overlaid};
+use condition_sets::{ListOf, NoMemory};
+use std::alloc::Global;
+
+/// What stands where an image may have any bytes: the old bytes, the new ones, all zeros or all ones.
+#[derive(Clone, Copy)]
+enum Fill {
+    Old,
+    New,
+    Zeros,
+    Ones,
+}
+
+/// An image with any part of a write: of this length, and filled so where it may have any bytes.
+fn torn(
+    alloc: Global,
+    before: &[u8],
+    at: usize,
+    written: &[u8],
+    len: usize,
+    fill: Fill,
+) -> Result<ListOf<u8>, NoMemory>
+    requires at_least { length before.now ≤ len }
+    requires at_most { len ≤ max (length before.now) (at + length written.now) }
+    requires end { at + length written.now < 2 ^ 64 }
+
+    ensures { IfOk result (IsTorn at (length written.now) before.now) }
+{
+    let mut image = Vec::new(alloc);
+    for place in 0..len {
+        let byte = torn_byte(before, at, written, place, fill);
+        image.push(byte)?;
+    }
+    Ok(ListOf::of(image))
+}
+
+/// The byte at a place of such an image.
+fn torn_byte(before: &[u8], at: usize, written: &[u8], place: usize, fill: Fill) -> u8
+    requires { at + length written.now < 2 ^ 64 }
+
+    ensures below { place < at → place < length before.now → result ≡ get_or before.now place 0 }
+    ensures above { at + length written.now ≤ place → place < length before.now → result ≡ get_or before.now place 0 }
+{
+    let old = match before.get(place) {
+        Some(byte) => *byte,
+        None => 0,
+    };
+    if place < at || place >= at + written.len() {
+        return old;
+    }
+    match fill {
+        Fill::Old => old,
+        Fill::New => written[place - at],
+        Fill::Zeros => 0,
+        Fill::Ones => 255,
+    }
+}
+
+/// Images with any part of a write, of each length that they may have.
+fn torn_each(
+    alloc: Global,
+    before: &[u8],
+    at: usize,
+    written: &[u8],
+) -> Result<Vec<ListOf<u8>>, NoMemory>
+    requires { at + length written.now + 1 < 2 ^ 64 }
+
+    ensures { IfOk result (λ images. All (IsTorn at (length written.now) before.now) images.items) }
+{
+    let longest = before.len().max(at + written.len());
+    let mut images = Vec::new(alloc);
+    for len in before.len()..longest + 1 {
+        for fill in [Fill::Old, Fill::New, Fill::Zeros, Fill::Ones] {
+            images.push(torn(alloc, before, at, written, len, fill)?)?;
+        }
+    }
+    Ok(images)
+}
+
+/// Images that are cut, of each length that they may have.
+fn cut_each(alloc: Global, before: &[u8], len: u64) -> Result<Vec<ListOf<u8>>, NoMemory>
+    ensures { IfOk result (λ images. All (IsCut len before.now) images.items) }
+{
+    let shortest = before.len().min(len as usize);
+    let mut images = Vec::new(alloc);
+    for end in shortest..before.len() + 1 {
+        images.push(ListOf::of(Vec::from_slice(alloc, &before[..end])?))?;
+    }
+    Ok(images)
+}
+
+/// Images with any part of a write of one of these.
+fn torn_all(
+    alloc: Global,
+    images: &[ListOf<u8>],
+    at: u64,
+    written: &[u8],
+) -> Result<Vec<ListOf<u8>>, NoMemory>
+    ensures { IfOk result (λ after. All (λ image. (before : List ℕ) × Contains images.now before × IsTorn at (length written.now) before image) after.items) }
+{
+    let place = at as usize;
+    let end = place.checked_add(written.len()).ok_or(NoMemory)?;
+    if end == usize::MAX {
+        return Err(NoMemory);
+    }
+    let mut after = Vec::new(alloc);
+    for before in images {
+        let mut each = torn_each(alloc, before.as_slice(), place, written)?;
+        after.append(&mut each)?;
+    }
+    Ok(after)
+}
+
+/// Images that are cut of one of these.
+fn cut_all(alloc: Global, images: &[ListOf<u8>], len: u64) -> Result<Vec<ListOf<u8>>, NoMemory>
+    ensures { IfOk result (λ after. All (λ image. (before : List ℕ) × Contains images.now before × IsCut len before image) after.items) }
+{
+    let mut after = Vec::new(alloc);
+    for before in images {
+        let mut each = cut_each(alloc, before.as_slice(), len)?;
+        after.append(&mut each)?;
+    }
+    Ok(after)
+}
+
+/// What a read gives after calls, the newest first.
+fn contents(alloc: Global, first: &[u8], calls: &[Call]) -> Result<Vec<u8>, NoMemory>
+    ensures { IfOk result (λ bytes. bytes.items ≡ contents first.now calls.now) }
+{
+    let Some((call, older)) = calls.split_first() else {
+        return Ok(Vec::from_slice(alloc, first)?);
+    };
+    let bytes = contents(alloc, first, older)?;
+    match call {
+        Call::Write {
+            at,
+            bytes: written,
+            ok: true,
+        } => overlaid(alloc, &bytes, *at, written.as_slice()),
+        Call::Cut { len, ok: true } => Ok(Vec::from_slice(alloc, front(&bytes, *len))?),
+        _ => Ok(bytes),
+    }
+}
+
+/// Images that a crash after calls may leave, the newest call first. Where an image may have any bytes these are
+/// the old ones, the new ones, all zeros and all ones.
+pub(crate) fn images(
+    alloc: Global,
+    first: &[u8],
+    calls: &[Call],
+) -> Result<Vec<ListOf<u8>>, NoMemory>
+    ensures { IfOk result (λ images. All (Image first.now calls.now) images.items) }
+{
+    let Some((call, older)) = calls.split_first() else {
+        return one(alloc, Vec::from_slice(alloc, first)?);
+    };
+    match call {
+        Call::Write { at, bytes, ok: _ } => {
+            let before = images(alloc, first, older)?;
+            let after = torn_all(alloc, &before, *at, bytes.as_slice())?;
+            Ok(after)
+        }
+        Call::Cut { len, ok: _ } => {
+            let before = images(alloc, first, older)?;
+            let after = cut_all(alloc, &before, *len)?;
+            Ok(after)
+        }
+        Call::Sync { ok: true } => one(alloc, contents(alloc, first, older)?),
+        Call::Sync { ok: false } => images(alloc, first, older),
+        Call::Read { .. } => images(alloc, first, older),
+    }
+}
+
+/// One image.
+fn one(alloc: Global, image: Vec<u8>) -> Result<Vec<ListOf<u8>>, NoMemory>
+    ensures { IfOk result (λ images. images.items ≡ image.items ∷ []) }
+{
+    let mut images = Vec::new(alloc);
+    images.push(ListOf::of(image))?;
+    Ok(images)
+}
