@@ -2,6 +2,7 @@
 #![tactic(auto)]
 
 mod clock;
+mod file_disk;
 mod input;
 mod output;
 

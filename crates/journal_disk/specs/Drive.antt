@@ -1,5 +1,5 @@
 -- What contracts see of a disk.
-use Rattle.std.specs.Prelude.{◌≡◌, ℕ, ◌≤◌, Bool, true, List}
+use Rattle.std.specs.Prelude.{◌≡◌, ℕ, ◌≤◌, Bool, true, false, List, []}
 
 -- An image is what may be read of the disk after a crash.
 pub record Drive : Type 1 where
@@ -27,3 +27,17 @@ pub record IsDrive (drive : Drive) : Type 0 where
 -- nothing is pending: a crash now leaves what a read gives
 abbrev pub IsStored : Drive → Type 0
 IsStored drive = (image : List ℕ) → drive.image image → image ≡ drive.bytes
+
+-- a disk that tells nothing of its bytes and images, and not that it is honest
+abbrev pub told_by_none : ℕ → Drive
+told_by_none faults = record {
+  bytes = [];
+  image = λ image. ⊥;
+  moment = 0;
+  image_since = λ moment image. ⊥;
+  faults = faults;
+  honest = false;
+}
+
+pub none-is_drive : (faults : ℕ) → IsDrive (told_by_none faults)
+none-is_drive faults = record { bytes = λ honest. cc; now = λ moment image before there. there }

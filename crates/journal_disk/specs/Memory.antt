@@ -16,6 +16,15 @@ contents first (Cut len true ∷ calls) = take len (contents first calls)
 contents first (Cut len false ∷ calls) = contents first calls
 contents first (Sync ok ∷ calls) = contents first calls
 
+-- what a read gave at the last sync that succeeded
+abbrev pub stored : List ℕ → List Call → List ℕ
+stored first [] = first
+stored first (Read at len ok ∷ calls) = stored first calls
+stored first (Write at bytes ok ∷ calls) = stored first calls
+stored first (Cut len ok ∷ calls) = stored first calls
+stored first (Sync true ∷ calls) = contents first calls
+stored first (Sync false ∷ calls) = stored first calls
+
 -- what a crash after the calls may leave
 abbrev pub Image : List ℕ → List Call → List ℕ → Type 0
 Image first [] image = image ≡ first

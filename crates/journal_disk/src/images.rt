@@ -1,6 +1,6 @@
-ghost use Rattle.std.specs.Prelude.{◌≡◌, ℕ, ◌+◌, ◌^◌, ◌≤◌, ◌<◌, [], ◌∷◌, List, length, take, get_or, min, max, All, Contains, IfOk};
+ghost use Rattle.std.specs.Prelude.{◌≡◌, ℕ, ◌+◌, ◌^◌, ◌≤◌, ◌<◌, [], ◌∷◌, List, length, take, get_or, slice_get, min, max, Some, All, Contains, IfOk};
 ghost use Rattle.journal_disk.specs.Images.{IsTorn, IsCut};
-ghost use Rattle.journal_disk.specs.Memory.{contents, Image};
+ghost use Rattle.journal_disk.specs.Memory.{contents, stored, Image};
 
 use crate::call::Call;
 use crate::changed::{front, overlaid};
@@ -61,7 +61,7 @@ fn torn_byte(before: &[u8], at: usize, written: &[u8], place: usize, fill: Fill)
     }
 }
 
-/// Images with any part of a write, of each length that they may have.
+/// Images with any part of a write, of each length that they may have. The first is the image as it was.
 fn torn_each(
     alloc: Global,
     before: &[u8],
@@ -70,10 +70,11 @@ fn torn_each(
 ) -> Result<Vec<ListOf<u8>>, NoMemory>
     requires { at + length written.now + 1 < 2 ^ 64 }
 
-    ensures { IfOk result (λ images. All (IsTorn at (length written.now) before.now) images.items) }
+    ensures all { IfOk result (λ images. All (IsTorn at (length written.now) before.now) images.items) }
+    ensures first { IfOk result (λ images. slice_get images.items 0 ≡ Some before.now) }
 {
     let longest = before.len().max(at + written.len());
-    let mut images = Vec::new(alloc);
+    let mut images = one(alloc, Vec::from_slice(alloc, before)?)?;
     for len in before.len()..longest + 1 {
         for fill in [Fill::Old, Fill::New, Fill::Zeros, Fill::Ones] {
             images.push(torn(alloc, before, at, written, len, fill)?)?;
@@ -82,13 +83,14 @@ fn torn_each(
     Ok(images)
 }
 
-/// Images that are cut, of each length that they may have.
+/// Images that are cut, of each length that they may have. The first is the image as it was.
 fn cut_each(alloc: Global, before: &[u8], len: u64) -> Result<Vec<ListOf<u8>>, NoMemory>
-    ensures { IfOk result (λ images. All (IsCut len before.now) images.items) }
+    ensures all { IfOk result (λ images. All (IsCut len before.now) images.items) }
+    ensures first { IfOk result (λ images. slice_get images.items 0 ≡ Some before.now) }
 {
     let shortest = before.len().min(len as usize);
-    let mut images = Vec::new(alloc);
-    for end in shortest..before.len() + 1 {
+    let mut images = one(alloc, Vec::from_slice(alloc, before)?)?;
+    for end in shortest..before.len() {
         images.push(ListOf::of(Vec::from_slice(alloc, &before[..end])?))?;
     }
     Ok(images)
@@ -101,7 +103,8 @@ fn torn_all(
     at: u64,
     written: &[u8],
 ) -> Result<Vec<ListOf<u8>>, NoMemory>
-    ensures { IfOk result (λ after. All (λ image. (before : List ℕ) × Contains images.now before × IsTorn at (length written.now) before image) after.items) }
+    ensures all { IfOk result (λ after. All (λ image. (before : List ℕ) × Contains images.now before × IsTorn at (length written.now) before image) after.items) }
+    ensures first { IfOk result (λ after. slice_get after.items 0 ≡ slice_get images.now 0) }
 {
     let place = at as usize;
     let end = place.checked_add(written.len()).ok_or(NoMemory)?;
@@ -118,7 +121,8 @@ fn torn_all(
 
 /// Images that are cut of one of these.
 fn cut_all(alloc: Global, images: &[ListOf<u8>], len: u64) -> Result<Vec<ListOf<u8>>, NoMemory>
-    ensures { IfOk result (λ after. All (λ image. (before : List ℕ) × Contains images.now before × IsCut len before image) after.items) }
+    ensures all { IfOk result (λ after. All (λ image. (before : List ℕ) × Contains images.now before × IsCut len before image) after.items) }
+    ensures first { IfOk result (λ after. slice_get after.items 0 ≡ slice_get images.now 0) }
 {
     let mut after = Vec::new(alloc);
     for before in images {
@@ -147,14 +151,15 @@ fn contents(alloc: Global, first: &[u8], calls: &[Call]) -> Result<Vec<u8>, NoMe
     }
 }
 
-/// Images that a crash after calls may leave, the newest call first. Where an image may have any bytes these are
-/// the old ones, the new ones, all zeros and all ones.
+/// Images that a crash after calls may leave, the newest call first; the first image is what was stored last. Where
+/// an image may have any bytes these are the old ones, the new ones, all zeros and all ones.
 pub(crate) fn images(
     alloc: Global,
     first: &[u8],
     calls: &[Call],
 ) -> Result<Vec<ListOf<u8>>, NoMemory>
-    ensures { IfOk result (λ images. All (Image first.now calls.now) images.items) }
+    ensures all { IfOk result (λ images. All (Image first.now calls.now) images.items) }
+    ensures first { IfOk result (λ images. slice_get images.items 0 ≡ Some (stored first.now calls.now)) }
 {
     let Some((call, older)) = calls.split_first() else {
         return one(alloc, Vec::from_slice(alloc, first)?);

@@ -1,7 +1,7 @@
-ghost use Rattle.std.specs.Prelude.{◌≡◌, ℕ, ◌+◌, ◌≤◌, ◌<◌, [], ◌∷◌, ◌++◌, List, length, take, drop, min, All, IfOk, OnOk, OnErr};
+ghost use Rattle.std.specs.Prelude.{◌≡◌, ℕ, ◌+◌, ◌≤◌, ◌<◌, [], ◌∷◌, ◌++◌, List, length, take, drop, slice_get, Some, All, IfOk, OnOk, OnErr};
 ghost use Rattle.outside_faults.specs.Script.{raised_calls};
 ghost use Rattle.journal_disk.specs.Images.{overlaid};
-ghost use Rattle.journal_disk.specs.Memory.{Content, contents, Image, drive_of};
+ghost use Rattle.journal_disk.specs.Memory.{Content, contents, stored, Image, drive_of};
 ghost use Rattle.journal_disk.specs.MemoryLaws.{memory-is_drive};
 ghost use Rattle.journal_disk.specs.declared.call.Call.TheVariants.{Read, Write, Cut, Sync};
 
@@ -67,10 +67,11 @@ impl MemoryDisk {
         self.bytes.as_slice()
     }
 
-    /// Images that a crash now may leave. Where an image may have any bytes these are the old ones, the new ones, all
+    /// Images that a crash now may leave; the first is what was stored last. Where an image may have any bytes these are the old ones, the new ones, all
     /// zeros and all ones; it may have others.
     pub fn images(&self) -> Result<Vec<ListOf<u8>>, NoMemory>
-        ensures { IfOk result (λ images. All (Image self.now.first self.now.calls) images.items) }
+        ensures all { IfOk result (λ images. All (Image self.now.first self.now.calls) images.items) }
+        ensures first { IfOk result (λ images. slice_get images.items 0 ≡ Some (stored self.now.first self.now.calls)) }
     {
         images(self.alloc, &self.first, &self.calls)
     }

@@ -86,20 +86,20 @@ fn a_cut_and_a_write(rt: HostRuntime) -> Result<(), Fail> {
     let mut disk = disk(rt.alloc(), &[1, 2, 3], &[])?;
     assert_eq!(rt; disk.cut(2), Ok(()));
     assert_eq!(rt; disk.as_slice(), [1, 2].as_slice());
-    leaves(&rt, &disk, &[&[1, 2], &[1, 2, 3]])?;
+    leaves(&rt, &disk, &[&[1, 2, 3], &[1, 2]])?;
     assert_eq!(rt; disk.write_at(0, &[9]), Ok(()));
     leaves(
         &rt,
         &disk,
         &[
-            &[1, 2],
-            &[9, 2],
-            &[0, 2],
-            &[255, 2],
             &[1, 2, 3],
             &[9, 2, 3],
             &[0, 2, 3],
             &[255, 2, 3],
+            &[1, 2],
+            &[9, 2],
+            &[0, 2],
+            &[255, 2],
         ],
     )?;
     assert_eq!(rt; disk.cut(7), Ok(()));
