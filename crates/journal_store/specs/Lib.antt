@@ -1,0 +1,5 @@
+pub mod AppendLaws
+pub mod Format
+pub mod FormatLaws
+pub mod Stands
+pub mod TornLaws

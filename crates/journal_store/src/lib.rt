@@ -1,0 +1,7 @@
+//! The journal: a list of payloads on a disk, of which a crash can tear no part that was answered.
+#![tactic(auto)]
+
+mod appending;
+mod limits;
+
+pub use limits::{MAX_PAYLOAD, MAX_PAYLOADS, VERSION};
