@@ -1,4 +1,5 @@
 pub mod AppendLaws
+pub mod Batches
 pub mod Format
 pub mod FormatLaws
 pub mod Stands

@@ -2,6 +2,7 @@
 #![tactic(auto)]
 
 mod appending;
+mod batch;
 mod limits;
 
 pub use limits::{MAX_PAYLOAD, MAX_PAYLOADS, VERSION};
