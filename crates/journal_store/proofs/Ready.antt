@@ -45,7 +45,7 @@ ready-payloads ps items n fine long is =
     let head : List ℕ = big_bytes 4 (length (body ps)) in
     let four : length head ≡ 4 = length-bytes_high_first 4 (length (body ps)) in
     let behind : drop 4 items ≡ body ps ++ 0 ∷ [] =
-        ap (drop 4) (bytes-of ps items is ∙ append_assoc head (body ps) (0 ∷ [])) ∙ (ap (λ (k : ℕ). drop k (head ++ (body ps ++ 0 ∷ []))) (sym four) ∙ drop-append_seam head (body ps ++ 0 ∷ [])) in
+    ap (drop 4) (bytes-of ps items is ∙ append_assoc head (body ps) (0 ∷ [])) ∙ (ap (λ (k : ℕ). drop k (head ++ (body ps ++ 0 ∷ []))) (sym four) ∙ drop-append_seam head (body ps ++ 0 ∷ [])) in
     ap (payloads_in n) behind ∙ (ap (λ (k : ℕ). payloads_in k (body ps ++ 0 ∷ [])) (sym long) ∙ read-back ps (0 ∷ []) fine)
 
 pub ready : (ps : List (List ℕ)) (bytes : Vec ℕ Global) (n : ℕ) → All IsPayload ps → length ps ≡ n → n ≤ MAX_PAYLOADS → bytes.items ≡ batch_bytes ps ++ 0 ∷ [] → BATCH_BYTES ≤ vec_capacity bytes → IsReady n bytes

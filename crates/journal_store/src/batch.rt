@@ -73,6 +73,7 @@ impl Batch {
     pub(crate) fn as_slice(&self) -> &[u8]
         ensures bytes { result.now ≡ batch_bytes self.now ++ 0 ∷ [] }
         ensures payloads { All IsPayload self.now }
+        ensures few { length self.now ≤ MAX_PAYLOADS }
         ensures within { length result.now ≤ BATCH_BYTES }
     {
         self.bytes.as_slice()

@@ -3,6 +3,9 @@
 
 mod appending;
 mod batch;
+mod journal;
 mod limits;
 
+pub use batch::Batch;
+pub use journal::{DiskFault, Journal};
 pub use limits::{MAX_PAYLOAD, MAX_PAYLOADS, VERSION};

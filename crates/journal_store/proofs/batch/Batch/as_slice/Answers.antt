@@ -8,3 +8,7 @@ pub returns-clause-within : goal.returns-clause-within
 returns-clause-within c =
     let ps = payloads_in c.self.inside.count (drop 4 c.self.inside.bytes.items) in
     omega (arith, ap length c.as_slice.ensures.value, ap length c.self.invariant.formed, length-append (batch_bytes ps) (0 ∷ []), length-batch ps, body-within ps c.self.invariant.payloads, length-payloads_in c.self.inside.count (drop 4 c.self.inside.bytes.items), c.self.invariant.few)
+
+pub returns-clause-few : goal.returns-clause-few
+returns-clause-few c =
+    omega (arith, length-payloads_in c.self.inside.count (drop 4 c.self.inside.bytes.items), ap length c.self.view_is, c.self.invariant.few)
