@@ -37,3 +37,16 @@ pub record Appends {T E : Type 0} (place : ℕ) (list batch : List (List ℕ)) (
   pub image : (image : List ℕ) → new.image image → StandsForEither list batch image
   pub since : (moment : ℕ) (image : List ℕ) → moment ≤ old.moment → new.image_since moment image → old.image_since moment image ⊎ StandsForEither list batch image
   pub stored : OnOk result (StoresAt (place + 1 + length (batch_bytes batch)) (list ++ batch) new)
+
+-- an honest disk of at most 17 bytes, on which nothing is pending
+pub record IsFresh (drive : Drive) : Type 0 where
+  pub honest : drive.honest ≡ true
+  pub stored : IsStored drive
+  pub short : length drive.bytes ≤ 17
+
+-- An empty journal is made: at each moment since it began each image stands for the empty list, and where it succeeded
+-- the disk has that stored.
+pub record Makes {T E : Type 0} (result : Result T E) (old new : Drive) : Type 0 where
+  pub image : (image : List ℕ) → new.image image → Stands image []
+  pub since : (moment : ℕ) (image : List ℕ) → moment ≤ old.moment → new.image_since moment image → old.image_since moment image ⊎ Stands image []
+  pub stored : OnOk result (StoresAt 16 [] new)

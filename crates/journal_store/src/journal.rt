@@ -1,12 +1,13 @@
-ghost use Rattle.std.specs.Prelude.{◌≡◌, ◌⊎◌, ℕ, ◌+◌, ◌^◌, ◌<◌, ◌≤◌, List, ◌++◌, length, true, false, IsErr, OnOk, OnErr};
+ghost use Rattle.std.specs.Prelude.{◌≡◌, ◌⊎◌, ℕ, ◌+◌, ◌^◌, ◌<◌, ◌≤◌, List, [], ◌++◌, length, true, false, IsErr, IfOk, OnOk, OnErr};
 ghost use Rattle.outside_faults.specs.Faults.{Rose};
 ghost use Rattle.journal_disk.specs.Steps.{GoesOn};
 ghost use Rattle.journal_store.specs.Format.{IsBatch, batch_bytes};
 ghost use Rattle.journal_store.specs.Journal.{Kept, IsOf};
-ghost use Rattle.journal_store.specs.Stands.{StandsForEither};
+ghost use Rattle.journal_store.specs.Stands.{IsFresh, StandsForEither};
 
 use crate::appending::append_at;
 use crate::batch::Batch;
+use crate::making::make_empty;
 use journal_disk::Disk;
 use std::marker::Model;
 
@@ -37,6 +38,21 @@ impl<D> Model for Journal<D> {
 }
 
 impl<D: Disk> Journal<D> {
+    /// An empty journal on a disk of at most 17 bytes. An `Err` gives the disk back.
+    pub(crate) fn make(mut disk: D) -> Result<Journal<D>, D>
+        ensures ok { IfOk result (λ journal. IsFresh (D.drive disk) → IsOf D.drive [] journal) }
+    {
+        match make_empty(&mut disk) {
+            Ok(()) => Ok(Journal {
+                disk,
+                gate: 16,
+                count: 0,
+                is_broken: false,
+            }),
+            Err(_) => Err(disk),
+        }
+    }
+
     /// Puts a batch behind the list: four calls of the disk, and no memory. At each moment since it began each image
     /// stands for the old list, or for the list with the whole batch. After an error every later append answers so
     /// at once.

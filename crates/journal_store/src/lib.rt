@@ -5,7 +5,11 @@ mod appending;
 mod batch;
 mod journal;
 mod limits;
+mod making;
 
 pub use batch::Batch;
 pub use journal::{DiskFault, Journal};
 pub use limits::{MAX_PAYLOAD, MAX_PAYLOADS, VERSION};
+
+#[cfg(test)]
+mod tests;

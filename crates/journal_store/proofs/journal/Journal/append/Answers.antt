@@ -24,8 +24,8 @@ returns-in-Err-clause-since g c =
     let is : IsBatch c.args.batch.now = record { at_least = c.requires.some; at_most = c.as_slice.ensures.few; payloads = c.as_slice.ensures.payloads } in
     let appends = c.in-Err.ensures.appends list c.args.batch.now inside.stored is c.as_slice.ensures.bytes in
     subst
-      (λ (j : Kept g.row.D.Denot). moment ≤ (g.D.Disk.drive j.disk).moment → (g.D.Disk.drive c.append_at.new.disk).image_since moment image → (g.D.Disk.drive j.disk).image_since moment image ⊎ StandsForEither list c.args.batch.now image)
-      c.self.view_is
-      (λ before after. appends.since moment image before after)
-      early
-      since
+    (λ (j : Kept g.row.D.Denot). moment ≤ (g.D.Disk.drive j.disk).moment → (g.D.Disk.drive c.append_at.new.disk).image_since moment image → (g.D.Disk.drive j.disk).image_since moment image ⊎ StandsForEither list c.args.batch.now image)
+    c.self.view_is
+    (λ before after. appends.since moment image before after)
+    early
+    since
