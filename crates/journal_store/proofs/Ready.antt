@@ -13,20 +13,6 @@ use Rattle.journal_store.specs.Format.{IsPayload, payload_bytes, body, batch_byt
 use Rattle.journal_store.specs.declared.batch.TheConstants.{BATCH_BYTES}
 use Rattle.journal_store.specs.declared.limits.TheConstants.{MAX_PAYLOAD, MAX_PAYLOADS}
 
--- each payload takes at most so many bytes
-length-payload : (p : List ℕ) → length (payload_bytes p) ≡ 2 + length p
-unfolding payload_bytes
-length-payload p = omega (arith, length-append (big_bytes 2 (length p)) p, length-bytes_high_first 2 (length p))
-
-pub body-within : (ps : List (List ℕ)) → All IsPayload ps → length (body ps) ≤ length ps * (2 + MAX_PAYLOAD)
-body-within [] fine = omega arith
-body-within (p ∷ ps) fine =
-    omega (arith, body-within ps (All-tail IsPayload p ps fine), ap length (flat_map-cons payload_bytes p ps), length-append (payload_bytes p) (body ps), length-payload p, (All-head IsPayload p ps fine).at_most)
-
-pub length-batch : (ps : List (List ℕ)) → length (batch_bytes ps) ≡ 4 + length (body ps)
-unfolding batch_bytes
-length-batch ps = omega (arith, length-append (big_bytes 4 (length (body ps))) (body ps), length-bytes_high_first 4 (length (body ps)))
-
 body-more : (ps : List (List ℕ)) (p : List ℕ) → body (ps ++ p ∷ []) ≡ body ps ++ payload_bytes p
 body-more ps p = flat_map-append payload_bytes ps (p ∷ []) ∙ ap (λ (xs : List ℕ). body ps ++ xs) (append-nil (payload_bytes p))
 

@@ -4,5 +4,7 @@ pub mod Format
 pub mod FormatLaws
 pub mod Journal
 pub mod MakeLaws
+pub mod Sized
 pub mod Stands
 pub mod TornLaws
+pub mod Unique

@@ -4,6 +4,7 @@
 mod appending;
 mod batch;
 mod journal;
+pub mod laws;
 mod limits;
 mod making;
 

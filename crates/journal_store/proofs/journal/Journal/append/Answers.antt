@@ -2,7 +2,7 @@ use Rattle.std.proofs.Common.{◌≡◌, ◌⊎◌, ◌+◌, ◌≤◌, sym, ap,
 use Rattle.journal_store.specs.Format.{IsBatch, batch_bytes, body}
 use Rattle.journal_store.specs.Journal.{Kept, IsOf}
 use Rattle.journal_store.specs.Stands.{StandsForEither}
-use Rattle.journal_store.proofs.Ready.{body-within, length-batch}
+use Rattle.journal_store.specs.Sized.{body-within, length-batch}
 use Rattle.journal_store.proofs.journal.Journal.append.Goals as goal
 
 pub invariant_of-self : goal.invariant_of-self
