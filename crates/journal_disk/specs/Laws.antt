@@ -1,5 +1,5 @@
 -- Laws of images.
-use Rattle.std.proofs.Common.{◌≡◌, ℕ, ◌+◌, ◌-◌, ◌<◌, ◌≤◌, List, [], ◌∷◌, ◌++◌, length, take, drop, replicate, get_or, refl, sym, ◌∙◌, ap, subst, arith, min, max, Bool, true, false, inl, inr, length-append, length-take, length-drop}
+use Rattle.std.proofs.Common.{◌≡◌, ℕ, ◌+◌, ◌-◌, List, ◌++◌, length, take, drop, replicate, get_or, refl, sym, ◌∙◌, ap, arith, max, length-append, length-take, length-drop}
 use Rattle.std.proofs.lemmas.List.{length-replicate, take_min, get_or_append_left, get_or-append_right, get_or-take, get_or-drop}
 use Rattle.std.proofs.Math.Seq.{take-length}
 use Rattle.journal_disk.specs.Images.{IsTorn, IsCut, grown, overlaid}

@@ -1,11 +1,9 @@
 -- Laws of a disk in memory.
-use Rattle.std.proofs.Common.{◌≡◌, ◌⊎◌, ℕ, ◌≤◌, List, [], ◌∷◌, length, take, refl, sym, ◌∙◌, ap, subst, arith, Bool, true, false, Ok, Err, inl, inr}
-use Rattle.std.specs.Prelude.{Result, OnOk}
-use Rattle.journal_disk.specs.Drive.{Drive, IsDrive, IsStored}
-use Rattle.journal_disk.specs.Images.{IsTorn, IsCut, overlaid}
+use Rattle.std.proofs.Common.{◌≡◌, ℕ, List, [], ◌∷◌, length, refl, sym, ◌∙◌, ap, subst, Bool, true, false, inl, inr}
+use Rattle.journal_disk.specs.Drive.{IsDrive, IsStored}
 use Rattle.journal_disk.specs.Laws.{torn-itself, cut-itself, taken-cut, overlaid-torn}
 use Rattle.journal_disk.specs.Memory.{Content, contents, Image, ImageSince, drive_at, drive_of}
-use Rattle.journal_disk.specs.Steps.{Leaves, LeftOf, Changes, Writes, Cuts, Syncs}
+use Rattle.journal_disk.specs.Steps.{Leaves, Changes}
 use Rattle.journal_disk.specs.declared.call.Call.{Call}
 use Rattle.journal_disk.specs.declared.call.Call.TheVariants.{Read, Write, Cut, Sync}
 

@@ -1,8 +1,8 @@
 -- What follows of a change and the sync after it.
-use Rattle.std.proofs.Common.{◌≡◌, ◌⊎◌, ℕ, ◌≤◌, List, refl, sym, ◌∙◌, ap, subst, arith, Ok, Err, inl, inr}
+use Rattle.std.proofs.Common.{◌≡◌, ◌⊎◌, ℕ, List, ◌∙◌, subst, arith, Ok, Err, inl, inr}
 use Rattle.std.specs.Prelude.{Result}
 use Rattle.journal_disk.specs.Drive.{Drive, IsStored}
-use Rattle.journal_disk.specs.Steps.{GoesOn, Leaves, LeftOf, Changes, Syncs, Keeps}
+use Rattle.journal_disk.specs.Steps.{GoesOn, LeftOf, Changes, Syncs, Keeps}
 
 -- on a disk on which nothing is pending, what is left of an image is left of the bytes
 left-of-bytes : (part : List ℕ → List ℕ → Type 0) (d : Drive) (image : List ℕ) → IsStored d → LeftOf part d image → part d.bytes image

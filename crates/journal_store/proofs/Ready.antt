@@ -1,17 +1,16 @@
 -- Batches whose bytes are ready.
-use Rattle.std.proofs.Common.{◌≡◌, ℕ, ◌+◌, ◌*◌, ◌<◌, ◌≤◌, List, [], ◌∷◌, ◌++◌, refl, sym, ◌∙◌, ap, subst, arith, length, drop, length-append, append_assoc, append-nil}
+use Rattle.std.proofs.Common.{◌≡◌, ℕ, ◌≤◌, List, [], ◌∷◌, ◌++◌, refl, sym, ◌∙◌, ap, subst, arith, length, drop, append_assoc, append-nil}
 use Rattle.std.specs.Prelude.{All, Vec, vec_capacity}
 use Rattle.std.specs.declared.alloc.Global.{Global}
 use Rattle.std.proofs.lemmas.Grind.{flat_map-append}
-use Rattle.std.proofs.lemmas.List.Concat.{flat_map-cons}
-use Rattle.std.proofs.lemmas.List.Elements.{All-append, All-cons, All-nil, All-head, All-tail}
+use Rattle.std.proofs.lemmas.List.Elements.{All-append, All-cons, All-nil}
 use Rattle.std.proofs.Math.Seq.{drop-append_seam}
 use Rattle.byteorder.specs.Endian.{big_bytes}
 use Rattle.byteorder.specs.Numbers.{length-bytes_high_first}
 use Rattle.journal_store.specs.Batches.{payloads_in, read-back, IsReady}
 use Rattle.journal_store.specs.Format.{IsPayload, payload_bytes, body, batch_bytes}
 use Rattle.journal_store.specs.declared.batch.TheConstants.{BATCH_BYTES}
-use Rattle.journal_store.specs.declared.limits.TheConstants.{MAX_PAYLOAD, MAX_PAYLOADS}
+use Rattle.journal_store.specs.declared.limits.TheConstants.{MAX_PAYLOADS}
 
 body-more : (ps : List (List ℕ)) (p : List ℕ) → body (ps ++ p ∷ []) ≡ body ps ++ payload_bytes p
 body-more ps p = flat_map-append payload_bytes ps (p ∷ []) ∙ ap (λ (xs : List ℕ). body ps ++ xs) (append-nil (payload_bytes p))

@@ -1,6 +1,6 @@
 -- What appending a batch leaves at each moment.
-use Rattle.std.proofs.Common.{◌≡◌, ◌⊎◌, ℕ, ◌+◌, ◌-◌, ◌<◌, ◌≤◌, List, [], ◌∷◌, ◌++◌, Bool, true, false, Ok, Err, refl, sym, ◌∙◌, ap, subst, arith, inl, inr, length, take, drop, get_or, max, length-append, length-take, append_assoc, append-nil, add-one, suc}
-use Rattle.std.specs.Prelude.{◌==◌, ◌≢◌, All, Result, replicate}
+use Rattle.std.proofs.Common.{◌≡◌, ◌⊎◌, ℕ, ◌+◌, ◌-◌, ◌≤◌, List, [], ◌∷◌, ◌++◌, true, Ok, Err, sym, ◌∙◌, ap, subst, arith, inl, inr, length, take, drop, get_or, length-append, length-take, append_assoc, add-one}
+use Rattle.std.specs.Prelude.{◌==◌, All, Result, replicate}
 use Rattle.std.proofs.lemmas.Bool.{cases_Bool}
 use Rattle.std.proofs.lemmas.Bool.Decides.{nat_tests}
 use Rattle.std.proofs.lemmas.List.{take-append-drop}

@@ -1,5 +1,5 @@
 -- The bytes of a journal.
-use Rattle.std.specs.Prelude.{◌≡◌, ℕ, ◌≤◌, List, ◌∷◌, [], ◌++◌, length, codes, All}
+use Rattle.std.specs.Prelude.{ℕ, ◌≤◌, List, ◌∷◌, [], ◌++◌, length, codes, All}
 use Rattle.std.specs.List.{flat_map}
 use Rattle.byteorder.specs.Endian.{big_bytes}
 use Rattle.journal_store.specs.declared.limits.TheConstants.{MAX_PAYLOAD, MAX_PAYLOADS}

@@ -1,12 +1,7 @@
 -- Laws of the bytes of a journal.
-use Rattle.std.proofs.Common.{◌≡◌, ℕ, ◌+◌, ◌≤◌, List, [], ◌∷◌, ◌++◌, refl, sym, ◌∙◌, ap, arith, length, length-append, append_assoc, append-nil}
-use Rattle.std.specs.Prelude.{All}
-use Rattle.std.specs.List.{flat_map}
+use Rattle.std.proofs.Common.{◌≡◌, ℕ, List, [], ◌∷◌, ◌++◌, refl, ◌∙◌, ap, length, append-nil}
 use Rattle.std.proofs.lemmas.Grind.{flat_map-append}
-use Rattle.std.proofs.lemmas.List.Elements.{All-append}
-use Rattle.journal_store.specs.Format.{header, IsBatch, batch_bytes, opened, payloads}
-use Rattle.journal_store.specs.Stands.{HasGates, Stands}
-use Rattle.journal_store.specs.declared.limits.TheConstants.{VERSION}
+use Rattle.journal_store.specs.Format.{header, batch_bytes, opened, payloads}
 
 pub length-header : (version : ℕ) → length (header version) ≡ 16
 unfolding header

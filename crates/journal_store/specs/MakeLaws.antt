@@ -1,5 +1,5 @@
 -- What making an empty journal leaves at each moment.
-use Rattle.std.proofs.Common.{◌≡◌, ◌⊎◌, ℕ, ◌+◌, ◌-◌, ◌≤◌, List, [], ◌∷◌, ◌++◌, Ok, Err, refl, sym, ◌∙◌, ap, arith, inl, inr, length, take, drop, length-append, append-nil}
+use Rattle.std.proofs.Common.{◌≡◌, ◌⊎◌, ℕ, ◌+◌, ◌-◌, ◌≤◌, List, [], ◌∷◌, ◌++◌, Ok, Err, refl, sym, ◌∙◌, ap, arith, inl, inr, length, drop, length-append, append-nil}
 use Rattle.std.specs.Prelude.{Result, replicate}
 use Rattle.std.proofs.lemmas.List.{length-replicate}
 use Rattle.std.proofs.lemmas.List.Elements.{All-nil}
@@ -9,7 +9,7 @@ use Rattle.journal_disk.specs.Images.{IsTorn, grown, overlaid}
 use Rattle.journal_disk.specs.Steps.{GoesOn, Keeps}
 use Rattle.journal_store.specs.Format.{header, IsBatch}
 use Rattle.journal_store.specs.FormatLaws.{length-header}
-use Rattle.journal_store.specs.Stands.{Stands, StoresAt, IsFresh, Makes}
+use Rattle.journal_store.specs.Stands.{Stands, IsFresh, Makes}
 use Rattle.journal_store.specs.declared.limits.TheConstants.{VERSION}
 
 -- the bytes of an empty journal

@@ -1,5 +1,5 @@
 -- What list of payloads an image stands for.
-use Rattle.std.specs.Prelude.{◌≡◌, ◌≢◌, ◌⊎◌, ℕ, ◌≤◌, Bool, true, List, ◌∷◌, [], ◌++◌, length, All, Result, OnOk, ◌+◌}
+use Rattle.std.specs.Prelude.{◌≡◌, ◌≢◌, ◌⊎◌, ℕ, ◌≤◌, true, List, ◌∷◌, [], ◌++◌, length, All, Result, OnOk, ◌+◌}
 use Rattle.journal_disk.specs.Drive.{Drive, IsStored}
 use Rattle.journal_store.specs.Format.{header, IsBatch, batch_bytes, opened, payloads}
 use Rattle.journal_store.specs.declared.limits.TheConstants.{VERSION}

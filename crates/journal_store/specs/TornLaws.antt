@@ -1,8 +1,7 @@
 -- What a write leaves of the bytes before a place and behind its range.
-use Rattle.std.proofs.Common.{◌≡◌, ℕ, ◌+◌, ◌-◌, ◌<◌, ◌≤◌, List, [], ◌∷◌, ◌++◌, refl, sym, ◌∙◌, ap, subst, arith, length, take, drop, get_or, max, length-append, length-take, length-drop, length-take-le}
-use Rattle.std.proofs.lemmas.List.{ext_get_or, get_or-take, get_or-drop, get_or_append_left, get_or-append_right, take-append-drop}
-use Rattle.std.proofs.Math.Seq.{drop-cons, take-append_seam}
-use Rattle.journal_disk.specs.Images.{IsTorn, grown, overlaid}
+use Rattle.std.proofs.Common.{◌≡◌, ℕ, ◌+◌, ◌<◌, ◌≤◌, List, sym, ◌∙◌, arith, length, take, drop, length-take, length-drop}
+use Rattle.std.proofs.lemmas.List.{ext_get_or, get_or-take, get_or-drop}
+use Rattle.journal_disk.specs.Images.{IsTorn}
 
 -- the bytes before the range stay
 pub torn-front : (place count : ℕ) (before after : List ℕ) → place ≤ length before → IsTorn place count before after → take place after ≡ take place before

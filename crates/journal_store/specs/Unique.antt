@@ -1,5 +1,5 @@
 -- An image stands for at most one list.
-use Rattle.std.proofs.Common.{◌≡◌, ℕ, ◌+◌, ◌^◌, ◌*◌, ◌<◌, ◌≤◌, List, [], ◌∷◌, ◌++◌, refl, sym, ◌∙◌, ap, subst, arith, inl, inr, length, take, drop, length-append, append_assoc}
+use Rattle.std.proofs.Common.{◌≡◌, ℕ, ◌^◌, ◌<◌, ◌≤◌, List, [], ◌∷◌, ◌++◌, refl, sym, ◌∙◌, ap, arith, inl, inr, length, take, drop, length-append, append_assoc}
 use Rattle.std.specs.Prelude.{◌≢◌, All}
 use Rattle.std.proofs.lemmas.List.Concat.{flat_map-cons}
 use Rattle.std.proofs.lemmas.List.Elements.{All-head, All-tail}
@@ -10,7 +10,7 @@ use Rattle.journal_store.specs.Format.{header, IsPayload, IsBatch, payload_bytes
 use Rattle.journal_store.specs.FormatLaws.{length-header}
 use Rattle.journal_store.specs.Sized.{body-within, length-batch}
 use Rattle.journal_store.specs.Stands.{HasGates, Stands}
-use Rattle.journal_store.specs.declared.limits.TheConstants.{VERSION, MAX_PAYLOAD, MAX_PAYLOADS}
+use Rattle.journal_store.specs.declared.limits.TheConstants.{VERSION}
 
 -- lists whose fronts are as long have the same fronts and the same rests
 same-front : (xs ys us vs : List ℕ) → length xs ≡ length ys → xs ++ us ≡ ys ++ vs → xs ≡ ys

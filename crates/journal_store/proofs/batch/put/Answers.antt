@@ -1,4 +1,4 @@
-use Rattle.std.proofs.Common.{◌≡◌, ℕ, ◌+◌, ◌-◌, List, [], ◌∷◌, ◌++◌, refl, sym, ◌∙◌, ap, arith, length, drop, take, length-append, length-take-le}
+use Rattle.std.proofs.Common.{◌≡◌, ℕ, ◌+◌, ◌-◌, List, [], ◌∷◌, ◌++◌, refl, ◌∙◌, ap, arith, length, drop, take, length-append, length-take-le}
 use Rattle.byteorder.specs.Endian.{big_bytes}
 use Rattle.journal_store.specs.Format.{payload_bytes}
 use Rattle.journal_store.proofs.Sizes.{put-behind}

@@ -1,5 +1,4 @@
-use Rattle.std.proofs.Common.{◌≡◌, ◌∙◌, ap, sym, subst, length, List, ℕ}
-use Rattle.journal_disk.specs.Drive.{Drive}
+use Rattle.std.proofs.Common.{◌∙◌, ap, sym, subst, length}
 use Rattle.journal_disk.specs.Images.{IsTorn}
 use Rattle.journal_disk.specs.Laws.{torn-itself}
 use Rattle.journal_disk.specs.Memory.{Content, drive_of}

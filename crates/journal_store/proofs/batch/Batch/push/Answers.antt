@@ -1,4 +1,4 @@
-use Rattle.std.proofs.Common.{◌≡◌, ℕ, ◌+◌, ◌≤◌, ◌∙◌, sym, ap, subst, arith, List, length, drop, ◌++◌, ◌∷◌, [], length-append}
+use Rattle.std.proofs.Common.{ℕ, ◌+◌, ◌≤◌, ◌∙◌, ap, arith, List, length, drop, ◌++◌, ◌∷◌, [], length-append}
 use Rattle.journal_store.specs.Batches.{payloads_in, length-payloads_in}
 use Rattle.journal_store.specs.Format.{batch_bytes, body}
 use Rattle.journal_store.specs.Sized.{body-within, length-batch}

@@ -1,5 +1,5 @@
-use Rattle.std.proofs.Common.{◌≡◌, ◌⊎◌, ◌+◌, ◌≤◌, sym, ap, subst, arith, length, length-append, ◌∷◌, []}
-use Rattle.journal_store.specs.Format.{IsBatch, batch_bytes, body}
+use Rattle.std.proofs.Common.{◌⊎◌, ◌≤◌, sym, ap, subst, arith, length, length-append, ◌∷◌, []}
+use Rattle.journal_store.specs.Format.{IsBatch, batch_bytes}
 use Rattle.journal_store.specs.Journal.{Kept, IsOf}
 use Rattle.journal_store.specs.Stands.{StandsForEither}
 use Rattle.journal_store.specs.Sized.{body-within, length-batch}
