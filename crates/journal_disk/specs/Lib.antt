@@ -3,5 +3,4 @@ pub mod Images
 pub mod Laws
 pub mod Memory
 pub mod MemoryLaws
-pub mod StepLaws
 pub mod Steps
