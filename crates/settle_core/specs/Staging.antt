@@ -1,5 +1,5 @@
 -- Changes that are planned before they are carried out: what they post, and whether that may be.
-use Rattle.std.specs.Prelude.{◌≡◌, ℕ, ◌+◌, ◌<◌, ◌≤◌, ⊤, suc, ℤ, pos, negsuc, ◌+ℤ◌, ◌≤ℤ◌, ◌<ℤ◌, ◌&&◌, Bool, true, nat_lt, if◌then◌else◌, List, [], ◌∷◌, sum_by, take, Option, Some, None, option_map, Result, Ok, Err}
+use Rattle.std.specs.Prelude.{◌≡◌, ℕ, ◌+◌, ◌-◌, ◌<◌, ◌≤◌, ⊤, suc, ℤ, pos, negsuc, ◌+ℤ◌, ◌≤ℤ◌, ◌<ℤ◌, ◌&&◌, Bool, true, nat_lt, if◌then◌else◌, List, [], ◌∷◌, sum_by, take, Option, Some, None, option_map, Result, Ok, Err}
 use Rattle.std.specs.Ordering.{ordering_then, nat_cmp, is_lt}
 use Rattle.std.specs.declared.cmp.Ordering.{Ordering}
 use Rattle.std.specs.Cmp.Lexicographic.{slice_cmp}
@@ -25,6 +25,10 @@ volume ps = sum_by (λ p. p.paid + p.taken) ps
 -- each posting takes no more than was there before all of them, with what those before it paid and took
 abbrev pub IsFunded : (ℕ → Collection → ℕ) → List Posting → Type 0
 IsFunded held ps = (n a : ℕ) (k : Collection) → debits (take n ps) a k ≤ held a k + credits (take n ps) a k
+
+-- what is left of a position, with what is staged so far
+abbrev pub left_at : (ℕ → Collection → ℕ) → List Posting → ℕ → Collection → ℕ
+left_at held ps a k = held a k + credits ps a k - debits ps a k
 
 -- a debit is carried out where there is enough, and is short only where there isn't, of what there is
 abbrev pub DebitedBy : ℕ → ℕ → Result Unit DebitFault → Type 0

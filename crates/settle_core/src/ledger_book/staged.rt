@@ -4,7 +4,7 @@ ghost use Rattle.settle_core.specs.Book.{credit, debit};
 ghost use Rattle.settle_core.specs.Holdings.{amount_at};
 ghost use Rattle.settle_core.specs.Keys.{Collection};
 ghost use Rattle.settle_core.specs.Postings.{credits, debits, minted, burnt};
-ghost use Rattle.settle_core.specs.Staging.{volume, signed_posting, IsFunded, DebitedBy, PostedBy};
+ghost use Rattle.settle_core.specs.Staging.{volume, left_at, signed_posting, IsFunded, DebitedBy, PostedBy};
 
 use crate::ledger_book::ledger::Ledger;
 use crate::ledger_book::moved::{credits, debits};
@@ -109,7 +109,7 @@ impl Staged {
 
         ensures ok { OnOk result (self.new.postings ≡ self.old.postings ++ debit account collection.now amount ∷ []) }
         ensures err { OnErr result (self.new.postings ≡ self.old.postings) }
-        ensures short { DebitedBy (amount_at ledger.now account collection.now + credits self.old.postings account collection.now - debits self.old.postings account collection.now) amount result }
+        ensures short { DebitedBy (left_at (amount_at ledger.now) self.old.postings account collection.now) amount result }
         ensures vault { self.new.vault ≡ self.old.vault }
         ensures funded { IsFunded (amount_at ledger.now) self.new.postings }
     {
@@ -140,7 +140,7 @@ impl Staged {
 
         ensures ok { OnOk result (self.new.postings ≡ self.old.postings ++ signed_posting account collection.now amount ∷ []) }
         ensures err { OnErr result (self.new.postings ≡ self.old.postings) }
-        ensures short { PostedBy (amount_at ledger.now account collection.now + credits self.old.postings account collection.now - debits self.old.postings account collection.now) amount result }
+        ensures short { PostedBy (left_at (amount_at ledger.now) self.old.postings account collection.now) amount result }
         ensures vault { self.new.vault ≡ self.old.vault }
         ensures funded { IsFunded (amount_at ledger.now) self.new.postings }
     {
@@ -163,8 +163,6 @@ impl Staged {
     pub fn change_vault(&mut self, amount: i128)
         requires low { neg_ℤ (pos MAX_AMOUNT) ≤ℤ (self.old.vault +ℤ amount) }
         requires high { (self.old.vault +ℤ amount) ≤ℤ pos MAX_AMOUNT }
-        requires least { neg_ℤ (pos (MAX_AMOUNT + MAX_AMOUNT)) ≤ℤ amount }
-        requires most { amount ≤ℤ pos (MAX_AMOUNT + MAX_AMOUNT) }
 
         ensures vault { self.new.vault ≡ self.old.vault +ℤ amount }
         ensures postings { self.new.postings ≡ self.old.postings }
