@@ -19,10 +19,12 @@ pub record Drive : Type 1 where
 abbrev pub Honestly : Drive → Type 0 → Type 0
 Honestly drive fact = drive.honest ≡ true → fact
 
--- What a read gives is one of the images, and the images of now are among those since any moment till now.
+-- What a read gives is one of the images; the images of now are among those since any moment till now, and since the
+-- present moment there are no others.
 pub record IsDrive (drive : Drive) : Type 0 where
   pub bytes : Honestly drive (drive.image drive.bytes)
   pub now : (moment : ℕ) (image : List ℕ) → moment ≤ drive.moment → drive.image image → drive.image_since moment image
+  pub at_present : (image : List ℕ) → drive.image_since drive.moment image → drive.image image
 
 -- nothing is pending: a crash now leaves what a read gives
 abbrev pub IsStored : Drive → Type 0
@@ -40,4 +42,4 @@ told_by_none faults = record {
 }
 
 pub none-is_drive : (faults : ℕ) → IsDrive (told_by_none faults)
-none-is_drive faults = record { bytes = λ honest. cc; now = λ moment image before there. there }
+none-is_drive faults = record { bytes = λ honest. cc; now = λ moment image before there. there; at_present = λ image there. there }

@@ -1,5 +1,5 @@
 -- Laws of a disk in memory.
-use Rattle.std.proofs.Common.{◌≡◌, ℕ, List, [], ◌∷◌, length, refl, sym, ◌∙◌, ap, subst, Bool, true, false, inl, inr}
+use Rattle.std.proofs.Common.{◌≡◌, ℕ, List, [], ◌∷◌, length, refl, sym, ◌∙◌, ap, subst, Bool, true, false, arith, inl, inr}
 use Rattle.journal_disk.specs.Drive.{IsDrive, IsStored}
 use Rattle.journal_disk.specs.Laws.{torn-itself, cut-itself, taken-cut, overlaid-torn}
 use Rattle.journal_disk.specs.Memory.{Content, contents, Image, ImageSince, drive_at, drive_of}
@@ -23,10 +23,17 @@ pub image-since : (first : List ℕ) (calls : List Call) (moment : ℕ) (image :
 image-since first [] moment image now = now
 image-since first (call ∷ calls) moment image now = inl now
 
+-- since the present moment there are no other images than those of now
+image-at_present : (first : List ℕ) (calls : List Call) (image : List ℕ) → ImageSince first calls (length calls) image → Image first calls image
+image-at_present first [] image since = since
+image-at_present first (call ∷ calls) image (inl now) = now
+image-at_present first (call ∷ calls) image (inr before) = absurd (omega (arith, before.0))
+
 pub memory-is_drive : (c : Content) → IsDrive (drive_of c)
 memory-is_drive c = record {
   bytes = λ honest. contents-image c.first c.calls;
   now = λ moment image before now. image-since c.first c.calls moment image now;
+  at_present = λ image since. image-at_present c.first c.calls image since;
 }
 
 -- a call more that changes nothing

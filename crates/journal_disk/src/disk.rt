@@ -15,7 +15,8 @@ pub trait Disk {
     /// What contracts see of the disk.
     ghost drive: { Self → Drive };
 
-    /// What a read gives is an image, and the images of now are among those since any moment.
+    /// What a read gives is an image, the images of now are among those since any moment, and since the present moment
+    /// there are no others.
     ghost is_drive: { (d : Self) → IsDrive (drive d) };
 
     /// Reads bytes from a place on into a front of the piece: as many as there are, up to the piece.
