@@ -67,8 +67,8 @@ impl MemoryDisk {
         self.bytes.as_slice()
     }
 
-    /// Images that a crash now may leave; the first is what was stored last. Where an image may have any bytes these are the old ones, the new ones, all
-    /// zeros and all ones; it may have others.
+    /// Images that a crash now may leave; the first is what was stored last. Where an image may have any bytes
+    /// these are the old ones, the new ones, all zeros and all ones; it may have others.
     pub fn images(&self) -> Result<Vec<ListOf<u8>>, NoMemory>
         ensures all { IfOk result (λ images. All (Image self.now.first self.now.calls) images.items) }
         ensures first { IfOk result (λ images. slice_get images.items 0 ≡ Some (stored self.now.first self.now.calls)) }

@@ -10,6 +10,9 @@ const FULL_VAULT: u64 = 1_000_000_000_000_000;
 /// An account and its command, what the exchange answers, and how many acts and collateral units it has then.
 type Step = (u16, Command, &'static str, usize, u64);
 
+/// The answer to a first condition that is prepared as act 1.
+const PREPARED: &str = "Ok(Prepared { condition: ConditionId { number: 0 }, lsn: 1 })";
+
 fn deposit(to: u16, amount: u64) -> Command {
     Command::Deposit {
         to: AccountId(to),
@@ -249,57 +252,26 @@ fn a_full_table(rt: HostRuntime) -> Result<(), Fail> {
     Ok(())
 }
 
+/// A full split of cash over the two sets of a condition.
+fn halves(alloc: Global, condition: u16, amount: u64) -> Result<Command, Fail> {
+    split(alloc, &[], condition, &[1, 2], amount)
+}
+
 #[test]
 fn splits(rt: HostRuntime) -> Result<(), Fail> {
     let alloc = rt.alloc();
-    let prepared = "Ok(Prepared { condition: ConditionId { number: 0 }, lsn: 1 })";
     let short = "Err(Unfunded { have: 40, place: 0 })";
+    let none = "Err(Unfunded { have: 0, place: 0 })";
     let steps = [
         (0, deposit(2, 100), "Ok(Done { lsn: 0 })", 1, 100),
-        (2, prepare(3, 7), prepared, 2, 100),
-        (
-            2,
-            split(alloc, &[], 0, &[1, 2], 60)?,
-            "Ok(Done { lsn: 2 })",
-            3,
-            100,
-        ),
-        (2, split(alloc, &[], 0, &[1, 2], 41)?, short, 3, 100),
-        (
-            3,
-            split(alloc, &[], 0, &[1, 2], 1)?,
-            "Err(Unfunded { have: 0, place: 0 })",
-            3,
-            100,
-        ),
-        (
-            2,
-            split(alloc, &[], 1, &[1, 2], 1)?,
-            "Err(NoCondition)",
-            3,
-            100,
-        ),
-        (
-            1,
-            split(alloc, &[], 1, &[1, 2], 1)?,
-            "Err(NotAllowed)",
-            3,
-            100,
-        ),
-        (
-            2,
-            split(alloc, &[], 0, &[1, 2], 40)?,
-            "Ok(Done { lsn: 3 })",
-            4,
-            100,
-        ),
-        (
-            2,
-            split(alloc, &[], 0, &[1, 2], 1)?,
-            "Err(Unfunded { have: 0, place: 0 })",
-            4,
-            100,
-        ),
+        (2, prepare(3, 7), PREPARED, 2, 100),
+        (2, halves(alloc, 0, 60)?, "Ok(Done { lsn: 2 })", 3, 100),
+        (2, halves(alloc, 0, 41)?, short, 3, 100),
+        (3, halves(alloc, 0, 1)?, none, 3, 100),
+        (2, halves(alloc, 1, 1)?, "Err(NoCondition)", 3, 100),
+        (1, halves(alloc, 1, 1)?, "Err(NotAllowed)", 3, 100),
+        (2, halves(alloc, 0, 40)?, "Ok(Done { lsn: 3 })", 4, 100),
+        (2, halves(alloc, 0, 1)?, none, 4, 100),
     ];
     let exchange = play(&rt, Limits::standard(), &steps)?;
     let hundred = "Ok(Balanced { amount: 100, rests: 4 })";
@@ -310,11 +282,22 @@ fn splits(rt: HostRuntime) -> Result<(), Fail> {
         (3, 2, [(0, 2)].as_slice(), hundred),
         (3, 3, [(0, 1)].as_slice(), nothing),
     ];
-    ask(&rt, &exchange, &cases)?;
+    ask(&rt, &exchange, &cases)
+}
+
+#[test]
+fn supplies(rt: HostRuntime) -> Result<(), Fail> {
+    let alloc = rt.alloc();
+    let steps = [
+        (0, deposit(2, 100), "Ok(Done { lsn: 0 })", 1, 100),
+        (2, prepare(3, 7), PREPARED, 2, 100),
+        (2, halves(alloc, 0, 60)?, "Ok(Done { lsn: 2 })", 3, 100),
+    ];
+    let exchange = play(&rt, Limits::standard(), &steps)?;
     for (pairs, supply) in [
-        ([].as_slice(), 0),
-        ([(0, 1)].as_slice(), 100),
-        ([(0, 2)].as_slice(), 100),
+        ([].as_slice(), 40),
+        ([(0, 1)].as_slice(), 60),
+        ([(0, 2)].as_slice(), 60),
         ([(1, 1)].as_slice(), 0),
     ] {
         let key = Pairs::of(Vec::from_slice(alloc, pairs)?);
@@ -324,27 +307,20 @@ fn splits(rt: HostRuntime) -> Result<(), Fail> {
 }
 
 #[test]
-fn splits_at_the_limit(rt: HostRuntime) -> Result<(), Fail> {
-    let alloc = rt.alloc();
-    let prepared = "Ok(Prepared { condition: ConditionId { number: 0 }, lsn: 1 })";
+fn splits_the_full_vault(rt: HostRuntime) -> Result<(), Fail> {
+    let whole = halves(rt.alloc(), 0, FULL_VAULT)?;
     let steps = [
-        (
-            0,
-            deposit(2, FULL_VAULT),
-            "Ok(Done { lsn: 0 })",
-            1,
-            FULL_VAULT,
-        ),
-        (2, prepare(3, 7), prepared, 2, FULL_VAULT),
-        (
-            2,
-            split(alloc, &[], 0, &[1, 2], FULL_VAULT)?,
-            "Ok(Done { lsn: 2 })",
-            3,
-            FULL_VAULT,
-        ),
+        (0, deposit(2, FULL_VAULT), "Ok(Done { lsn: 0 })", 1, FULL_VAULT),
+        (2, prepare(3, 7), PREPARED, 2, FULL_VAULT),
+        (2, whole, "Ok(Done { lsn: 2 })", 3, FULL_VAULT),
     ];
     play(&rt, Limits::standard(), &steps)?;
+    Ok(())
+}
+
+#[test]
+fn forms_of_splits(rt: HostRuntime) -> Result<(), Fail> {
+    let alloc = rt.alloc();
     for (parent, sets, amount, in_ranges, is_built) in [
         ([].as_slice(), [1, 2].as_slice(), FULL_VAULT, true, true),
         (
