@@ -1,4 +1,4 @@
-use settle_core::Clock;
+use command_words::Clock;
 use std::time;
 
 /// The machine's clock, in whole seconds since 1970. Where it fails, it tells the last moment again, and 0 at first.

@@ -2,13 +2,13 @@
 use Rattle.std.proofs.Common.{◌≡◌, ℕ, ◌<◌, ◌≤◌, List, [], ◌∷◌, length, Option, Some, None, Bool, true, false, refl, sym, ◌∙◌, ap, arith}
 use Rattle.std.specs.Prelude.{◌==◌, ◌&&◌, option_and_then, option_map}
 use Rattle.std.proofs.lemmas.Bool.{cond-false}
-use Rattle.settle_core.specs.Command.{in_ranges}
+use Rattle.command_words.specs.Command.{in_ranges}
 use Rattle.serde_json.specs.Data.{Items}
 use Rattle.serde_json.specs.View.{view, items_view}
 use Rattle.serde_json.specs.declared.value.Value.{Value}
 use Rattle.exchange_top.specs.Json.{two_in, pair_in, pairs_in}
 use Rattle.exchange_top.specs.CommandText.{split_by}
-use Rattle.settle_core.specs.declared.command_words.command.Command.TheVariants.{Split, Balance}
+use Rattle.command_words.specs.declared.command.Command.TheVariants.{Split, Balance}
 use Rattle.exchange_top.specs.Ranged.{ranged_command}
 
 pub two_in-few : (vs : List Value) → length vs < 2 → two_in (items_view vs) ≡ None

@@ -6,10 +6,10 @@ use Rattle.std.proofs.lemmas.Bool.{cases_Bool, cond-true, cond-false}
 use Rattle.std.proofs.lemmas.Str.{IsUtf8-from_is_utf8, is_utf8-from_IsUtf8}
 use Rattle.serde_json.specs.Data.{Data}
 use Rattle.serde_json.specs.Read.{read}
-use Rattle.settle_core.specs.declared.command_words.reply.LineFault.TheVariants.{NotJson}
-use Rattle.settle_core.specs.Command.{is_account, in_ranges, is_built}
+use Rattle.command_words.specs.declared.reply.LineFault.TheVariants.{NotJson}
+use Rattle.command_words.specs.Command.{is_account, in_ranges, is_built}
 use Rattle.exchange_top.specs.declared.wire_json.request.Request.{Request}
-use Rattle.settle_core.specs.declared.command_words.command.Command.{Command}
+use Rattle.command_words.specs.declared.command.Command.{Command}
 use Rattle.exchange_top.specs.CommandText.{command_in}
 use Rattle.exchange_top.specs.Json.{number_at, text_at}
 use Rattle.exchange_top.specs.Ranged.{ranged_account, ranged_command}

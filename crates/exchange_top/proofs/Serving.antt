@@ -10,7 +10,7 @@ use Rattle.line_link.specs.Lines.{Heard, heard_lines, AppendsFront}
 use Rattle.line_link.specs.Reading.{Reading}
 use Rattle.line_link.specs.declared.status.Status.{Status}
 use Rattle.line_link.specs.declared.status.Status.TheVariants.{Done, WriteFault}
-use Rattle.settle_core.specs.declared.command_words.act.Act.{Act}
+use Rattle.command_words.specs.declared.act.Act.{Act}
 use Rattle.settle_core.specs.Bounds.{Bounds, standard}
 use Rattle.exchange_top.specs.declared.program.TheConstants.{MAX_INPUT}
 use Rattle.exchange_top.specs.ReplyText.{text_of}

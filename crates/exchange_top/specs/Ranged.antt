@@ -1,8 +1,8 @@
 -- What is kept of numbers that may be out of their ranges.
 use Rattle.std.specs.Prelude.{ℕ, ◌^◌, nat_lt, ◌&&◌, if◌then◌else◌, Option, Some, None}
-use Rattle.settle_core.specs.declared.command_words.command.Command.{Command}
-use Rattle.settle_core.specs.Keys.{is_condition}
-use Rattle.settle_core.specs.Command.{is_account, in_ranges, is_built}
+use Rattle.command_words.specs.declared.command.Command.{Command}
+use Rattle.command_words.specs.Keys.{is_condition}
+use Rattle.command_words.specs.Command.{is_account, in_ranges, is_built}
 
 -- an account's number
 abbrev pub ranged_account : ℕ → Option ℕ

@@ -1,11 +1,11 @@
 -- The text of each reply: one JSON object without spaces, members in ascending order of their names, and a newline.
 use Rattle.std.specs.Prelude.{ℕ, List, ◌++◌, codes, decimal}
-use Rattle.settle_core.specs.declared.command_words.refusal.Refusal.{Refusal}
-use Rattle.settle_core.specs.declared.command_words.refusal.Refusal.TheVariants.{NotAllowed, NoCondition, AlreadyPrepared, TableFull, Unfunded, VaultLimit, SupplyLimit, HistoryFull, Memory}
-use Rattle.settle_core.specs.declared.command_words.reply.LineFault.{LineFault}
-use Rattle.settle_core.specs.declared.command_words.reply.LineFault.TheVariants as fault
-use Rattle.settle_core.specs.declared.command_words.reply.Reply.{Reply}
-use Rattle.settle_core.specs.declared.command_words.reply.Reply.TheVariants.{Done, Prepared, Balanced, Vaulted, Refused, Bad}
+use Rattle.command_words.specs.declared.refusal.Refusal.{Refusal}
+use Rattle.command_words.specs.declared.refusal.Refusal.TheVariants.{NotAllowed, NoCondition, AlreadyPrepared, TableFull, Unfunded, VaultLimit, SupplyLimit, HistoryFull, Memory}
+use Rattle.command_words.specs.declared.reply.LineFault.{LineFault}
+use Rattle.command_words.specs.declared.reply.LineFault.TheVariants as fault
+use Rattle.command_words.specs.declared.reply.Reply.{Reply}
+use Rattle.command_words.specs.declared.reply.Reply.TheVariants.{Done, Prepared, Balanced, Vaulted, Refused, Bad}
 
 -- the text of a refusal that has no member but rests
 abbrev pub plain_text : List ℕ → ℕ → List ℕ

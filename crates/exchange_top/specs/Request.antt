@@ -3,10 +3,10 @@ use Rattle.std.specs.Prelude.{◌≡◌, ℕ, ◌&&◌, if◌then◌else◌, Lis
 use Rattle.std.specs.Str.{is_utf8}
 use Rattle.serde_json.specs.Data.{Data}
 use Rattle.serde_json.specs.Read.{read}
-use Rattle.settle_core.specs.declared.command_words.command.Command.{Command}
-use Rattle.settle_core.specs.declared.command_words.reply.LineFault.{LineFault}
-use Rattle.settle_core.specs.declared.command_words.reply.LineFault.TheVariants.{NotJson, NotCommand, Memory}
-use Rattle.settle_core.specs.Command.{is_account, in_ranges, is_built}
+use Rattle.command_words.specs.declared.command.Command.{Command}
+use Rattle.command_words.specs.declared.reply.LineFault.{LineFault}
+use Rattle.command_words.specs.declared.reply.LineFault.TheVariants.{NotJson, NotCommand, Memory}
+use Rattle.command_words.specs.Command.{is_account, in_ranges, is_built}
 use Rattle.exchange_top.specs.CommandText.{command_in}
 use Rattle.exchange_top.specs.Json.{number_at, text_at}
 use Rattle.exchange_top.specs.declared.wire_json.request.Request.{Request}

@@ -5,7 +5,7 @@ use Rattle.outside_faults.specs.Told.{IfTold}
 use Rattle.line_link.specs.Lines.{Heard, heard_lines}
 use Rattle.line_link.specs.declared.status.Status.{Status}
 use Rattle.line_link.specs.declared.status.Status.TheVariants.{Done, Words, ReadFault, WriteFault, InputLimit, Memory}
-use Rattle.settle_core.specs.declared.command_words.act.Act.{Act}
+use Rattle.command_words.specs.declared.act.Act.{Act}
 use Rattle.settle_core.specs.Bounds.{standard}
 use Rattle.exchange_top.specs.declared.ended.Ended.{Ended}
 use Rattle.exchange_top.specs.ReplyText.{text_of}

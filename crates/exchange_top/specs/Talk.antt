@@ -1,13 +1,13 @@
 -- The talk: what each line is answered, and the history that the answers leave.
 use Rattle.std.specs.Prelude.{◌≡◌, ℕ, Bool, true, false, MatchBool, List, [], ◌∷◌, Result, Ok, Err}
 use Rattle.line_link.specs.Lines.{Heard, kept, too_long}
-use Rattle.settle_core.specs.declared.command_words.act.Act.{Act}
-use Rattle.settle_core.specs.declared.command_words.refusal.Refusal.{Refusal}
-use Rattle.settle_core.specs.declared.command_words.refusal.Refusal.TheVariants as refusal
-use Rattle.settle_core.specs.declared.command_words.reply.LineFault.{LineFault}
-use Rattle.settle_core.specs.declared.command_words.reply.LineFault.TheVariants.{TooLong, NotJson, NotCommand, Memory}
-use Rattle.settle_core.specs.declared.command_words.reply.Reply.{Reply}
-use Rattle.settle_core.specs.declared.command_words.reply.Reply.TheVariants.{Done, Prepared, Balanced, Vaulted, Refused, Bad}
+use Rattle.command_words.specs.declared.act.Act.{Act}
+use Rattle.command_words.specs.declared.refusal.Refusal.{Refusal}
+use Rattle.command_words.specs.declared.refusal.Refusal.TheVariants as refusal
+use Rattle.command_words.specs.declared.reply.LineFault.{LineFault}
+use Rattle.command_words.specs.declared.reply.LineFault.TheVariants.{TooLong, NotJson, NotCommand, Memory}
+use Rattle.command_words.specs.declared.reply.Reply.{Reply}
+use Rattle.command_words.specs.declared.reply.Reply.TheVariants.{Done, Prepared, Balanced, Vaulted, Refused, Bad}
 use Rattle.settle_core.specs.Bounds.{Bounds}
 use Rattle.settle_core.specs.Reply.{Answered, no_memory}
 use Rattle.exchange_top.specs.declared.wire_json.request.Request.{Request}

@@ -3,14 +3,15 @@
 ghost use Rattle.std.specs.Prelude.{◌≡◌, length, true};
 ghost use Rattle.line_link.specs.Heard.{heard};
 ghost use Rattle.line_link.specs.Lines.{kept};
-ghost use Rattle.settle_core.specs.Command.{in_ranges, is_built};
+ghost use Rattle.command_words.specs.Command.{in_ranges, is_built};
 ghost use Rattle.settle_core.specs.Reply.{Answered};
 ghost use Rattle.settle_core.specs.State.{asked};
 ghost use Rattle.exchange_top.specs.Talk.{AnsweredLine, refused_reply};
 
 use crate::wire_json::{Request, read_line};
+use command_words::{LineFault, Refusal, Reply};
 use line_link::Line;
-use settle_core::{Exchange, LineFault, Refusal, Reply};
+use settle_core::Exchange;
 use std::alloc::Global;
 
 /// Answers a line that was told, whose bytes are `text`.

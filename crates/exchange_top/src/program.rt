@@ -9,9 +9,10 @@ ghost use Rattle.exchange_top.specs.declared.program.TheConstants.{MAX_INPUT};
 use crate::answering::answer_line;
 use crate::ended::Ended;
 use crate::wire_json::{Text, write_reply};
+use command_words::Clock;
 use condition_sets::NoMemory;
 use line_link::{LineReader, ReadEnd, Sink, Source, Status, WriteFault, write_all};
-use settle_core::{Clock, Exchange, Limits};
+use settle_core::{Exchange, Limits};
 use std::alloc::Global;
 
 /// How many bytes a run takes from its source at the most.

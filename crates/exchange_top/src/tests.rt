@@ -3,9 +3,9 @@
 ghost use Rattle.std.specs.Prelude.{◌<◌};
 
 use crate::{Ended, run};
+use command_words::ListClock;
 use line_link::{MemorySink, MemorySource, Status};
 use outside_faults::FailingCalls;
-use settle_core::ListClock;
 use std::alloc::{AllocError, Global};
 use std::process::Abort;
 use std::test::Fail;

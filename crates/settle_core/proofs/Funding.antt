@@ -5,7 +5,7 @@ use Rattle.std.proofs.lemmas.Bool.{cases_Bool, cases_lt, cond-true, cond-false}
 use Rattle.std.proofs.lemmas.List.{take-append-le, take_all}
 use Rattle.std.proofs.lemmas.List.Sums.{sum_by_push}
 use Rattle.settle_core.specs.declared.ledger_book.posting.Posting.{Posting}
-use Rattle.settle_core.specs.Keys.{Collection, same_collection}
+use Rattle.command_words.specs.Keys.{Collection, same_collection}
 use Rattle.settle_core.specs.Postings.{paid_to_account, taken_from_account, credits, debits}
 use Rattle.settle_core.specs.Staging.{IsFunded}
 use Rattle.settle_core.proofs.Balances.{and_true, same_number, same-equal, is_same, paid_here, taken_here}

@@ -3,12 +3,12 @@ use Rattle.std.proofs.Common.{◌≡◌, ℕ, ◌+◌, ◌≤◌, List, [], ◌�
 use Rattle.std.specs.Prelude.{ℤ, pos, nat_abs, ◌+ℤ◌, ◌≤ℤ◌}
 use Rattle.std.proofs.lemmas.Int.{ints}
 use Rattle.condition_sets.specs.declared.amount.TheConstants.{MAX_AMOUNT}
-use Rattle.settle_core.specs.declared.command_words.act.Act.{Act}
+use Rattle.command_words.specs.declared.act.Act.{Act}
 use Rattle.settle_core.specs.declared.condition_table.facts.Facts.{Facts}
 use Rattle.settle_core.specs.Book.{conditions, prepared_by, postings_of}
 use Rattle.settle_core.specs.Bounds.{Bounds}
 use Rattle.settle_core.specs.Holdings.{Holdings, HoldSame, amount_at, supply_at}
-use Rattle.settle_core.specs.Keys.{Collection}
+use Rattle.command_words.specs.Keys.{Collection}
 use Rattle.settle_core.specs.Kept.{IsKept}
 use Rattle.settle_core.specs.Legal.{IsAccepted}
 use Rattle.settle_core.specs.declared.ledger_book.posting.Posting.{Posting}

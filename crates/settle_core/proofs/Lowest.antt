@@ -1,15 +1,15 @@
 -- The first refusal that is there has the lowest number.
 use Rattle.std.proofs.Common.{◌≡◌, ℕ, ◌<◌, ◌≤◌, List, [], ◌∷◌, length, Option, Some, None, refl, subst, arith, zero, suc, Bool, true, false}
 use Rattle.std.specs.Prelude.{Contains, slice_index_or, option_map}
-use Rattle.settle_core.specs.declared.command_words.act.Act.{Act}
-use Rattle.settle_core.specs.declared.command_words.command.Command.{Command}
-use Rattle.settle_core.specs.declared.command_words.command.Command.TheVariants.{Deposit, Prepare, Split, Balance, Vault}
-use Rattle.settle_core.specs.declared.command_words.refusal.Refusal.{Refusal}
-use Rattle.settle_core.specs.declared.command_words.refusal.Refusal.TheVariants.{NotAllowed, NoCondition, AlreadyPrepared, TableFull, Unfunded, VaultLimit, SupplyLimit, HistoryFull}
+use Rattle.command_words.specs.declared.act.Act.{Act}
+use Rattle.command_words.specs.declared.command.Command.{Command}
+use Rattle.command_words.specs.declared.command.Command.TheVariants.{Deposit, Prepare, Split, Balance, Vault}
+use Rattle.command_words.specs.declared.refusal.Refusal.{Refusal}
+use Rattle.command_words.specs.declared.refusal.Refusal.TheVariants.{NotAllowed, NoCondition, AlreadyPrepared, TableFull, Unfunded, VaultLimit, SupplyLimit, HistoryFull}
 use Rattle.settle_core.specs.Book.{postings_of}
-use Rattle.settle_core.specs.Keys.{root}
+use Rattle.command_words.specs.Keys.{root}
 use Rattle.settle_core.specs.Postings.{balance, supply, vault}
-use Rattle.settle_core.specs.Refusal.{code_of}
+use Rattle.command_words.specs.Refusal.{code_of}
 use Rattle.settle_core.specs.Staging.{oversupplied}
 use Rattle.settle_core.specs.Verdict.{Question, where_, first_some, refusals, shortage, unfunded, vault_limit, supply_limit, history_full}
 

@@ -6,10 +6,10 @@ use Rattle.std.proofs.lemmas.List.{map_more}
 use Rattle.std.proofs.lemmas.List.Sums.{sum_by-cons, sum_by-append}
 use Rattle.settle_core.specs.declared.ledger_book.posting.Posting.{Posting}
 use Rattle.condition_sets.specs.declared.amount.TheConstants.{MAX_AMOUNT}
-use Rattle.settle_core.specs.declared.command_words.command.TheConstants.{MAX_SETS}
+use Rattle.command_words.specs.declared.command.TheConstants.{MAX_SETS}
 use Rattle.settle_core.specs.declared.ledger_book.staged.TheConstants.{MAX_VOLUME}
 use Rattle.settle_core.specs.Book.{credit}
-use Rattle.settle_core.specs.Keys.{Collection, set_of}
+use Rattle.command_words.specs.Keys.{Collection, set_of}
 use Rattle.settle_core.specs.Staging.{volume, IsFunded}
 use Rattle.settle_core.proofs.Funding.{funded-credit}
 

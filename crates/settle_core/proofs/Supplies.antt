@@ -6,7 +6,7 @@ use Rattle.std.proofs.lemmas.Bool.Decides.{nat_tests}
 use Rattle.std.proofs.lemmas.List.Sums.{sum_by-cons}
 use Rattle.condition_sets.specs.declared.amount.TheConstants.{MAX_AMOUNT}
 use Rattle.settle_core.specs.declared.ledger_book.posting.Posting.{Posting}
-use Rattle.settle_core.specs.Keys.{Collection, same_collection}
+use Rattle.command_words.specs.Keys.{Collection, same_collection}
 use Rattle.settle_core.specs.Postings.{paid_to, taken_from, minted, burnt}
 use Rattle.settle_core.specs.Staging.{comes_before, least_from, is_above_supply, oversupplied}
 use Rattle.settle_core.proofs.Balances.{same-equal}

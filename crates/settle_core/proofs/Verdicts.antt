@@ -3,11 +3,11 @@ use Rattle.std.proofs.Common.{◌≡◌, ℕ, ◌+◌, ◌<◌, ◌≤◌, List,
 use Rattle.std.specs.Prelude.{slice_get, nat_le, ◌&&◌, option_map, Err}
 use Rattle.std.proofs.lemmas.Bool.Decides.{nat_tests}
 use Rattle.condition_sets.specs.declared.amount.TheConstants.{MAX_AMOUNT}
-use Rattle.settle_core.specs.declared.command_words.command.Command.{Command}
-use Rattle.settle_core.specs.declared.command_words.command.Command.TheVariants.{Deposit, Prepare, Split, Balance, Vault}
-use Rattle.settle_core.specs.declared.command_words.refusal.Refusal.{Refusal}
-use Rattle.settle_core.specs.declared.command_words.refusal.Refusal.TheVariants.{NotAllowed, NoCondition, AlreadyPrepared, TableFull, Unfunded, VaultLimit, SupplyLimit, HistoryFull, Memory}
-use Rattle.settle_core.specs.Command.{makes_act}
+use Rattle.command_words.specs.declared.command.Command.{Command}
+use Rattle.command_words.specs.declared.command.Command.TheVariants.{Deposit, Prepare, Split, Balance, Vault}
+use Rattle.command_words.specs.declared.refusal.Refusal.{Refusal}
+use Rattle.command_words.specs.declared.refusal.Refusal.TheVariants.{NotAllowed, NoCondition, AlreadyPrepared, TableFull, Unfunded, VaultLimit, SupplyLimit, HistoryFull, Memory}
+use Rattle.command_words.specs.Command.{makes_act}
 use Rattle.settle_core.specs.Book.{conditions, postings_of}
 use Rattle.settle_core.specs.Postings.{supply, vault, deposit_of}
 use Rattle.settle_core.specs.Staging.{oversupplied}

@@ -7,7 +7,7 @@ use Rattle.std.proofs.Math.Seq.{drop-cons}
 use Rattle.settle_core.specs.declared.ledger_book.holding.Holding.{Holding}
 use Rattle.settle_core.specs.declared.ledger_book.posting.Posting.{Posting}
 use Rattle.settle_core.specs.Holdings.{is_at, amount_in, posted_to, posted_in}
-use Rattle.settle_core.specs.Keys.{Collection}
+use Rattle.command_words.specs.Keys.{Collection}
 
 -- the balances from a place on begin with the one there
 from_place : (hs : List Holding) (i : ℕ) (h : Holding) → i < length hs → h ≡ get_or hs i h → drop i hs ≡ h ∷ drop (i + 1) hs

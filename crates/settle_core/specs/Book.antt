@@ -2,11 +2,11 @@
 -- Source: Gnosis Conditional Tokens, developer documentation.
 use Rattle.std.specs.Prelude.{◌≡◌, ℕ, List, [], ◌∷◌, ◌++◌, fold, map}
 use Rattle.std.proofs.lemmas.List.Sums.{fold-append}
-use Rattle.settle_core.specs.declared.command_words.command.Command.{Command}
-use Rattle.settle_core.specs.declared.command_words.command.Command.TheVariants.{Deposit, Prepare, Split, Balance, Vault}
-use Rattle.settle_core.specs.declared.command_words.act.Act.{Act}
+use Rattle.command_words.specs.declared.command.Command.{Command}
+use Rattle.command_words.specs.declared.command.Command.TheVariants.{Deposit, Prepare, Split, Balance, Vault}
+use Rattle.command_words.specs.declared.act.Act.{Act}
 use Rattle.settle_core.specs.declared.ledger_book.posting.Posting.{Posting}
-use Rattle.settle_core.specs.Keys.{Collection, root, set_of}
+use Rattle.command_words.specs.Keys.{Collection, root, set_of}
 use Rattle.settle_core.specs.declared.condition_table.facts.Facts.{Facts}
 
 -- the conditions by their numbers, and what was posted, the oldest first

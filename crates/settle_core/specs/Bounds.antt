@@ -1,6 +1,7 @@
 -- The limits of an exchange.
 use Rattle.std.specs.Prelude.{ℕ, ◌<◌, ◌≤◌}
-use Rattle.settle_core.specs.declared.limits.TheConstants.{STANDARD_CONDITIONS, STANDARD_EVENTS, STANDARD_ORDERS, STANDARD_ENTRIES, MAX_HISTORY}
+use Rattle.settle_core.specs.declared.limits.TheConstants.{STANDARD_CONDITIONS, STANDARD_EVENTS, STANDARD_ORDERS, STANDARD_ENTRIES}
+use Rattle.command_words.specs.declared.act.TheConstants.{MAX_HISTORY}
 
 -- how many conditions, events, open orders of a market, nonzero balances and acts there may be
 pub record Bounds : Type 0 where

@@ -1,6 +1,6 @@
 -- What contracts see of a ledger.
 use Rattle.std.specs.Prelude.{◌≡◌, ◌==◌, ℕ, ◌+◌, ◌-◌, ◌&&◌, Bool, List, [], ◌∷◌, sum_by, if◌then◌else◌}
-use Rattle.settle_core.specs.Keys.{Collection, same_collection}
+use Rattle.command_words.specs.Keys.{Collection, same_collection}
 use Rattle.settle_core.specs.declared.ledger_book.holding.Holding.{Holding}
 use Rattle.settle_core.specs.declared.ledger_book.posting.Posting.{Posting}
 

@@ -1,12 +1,12 @@
 -- What an exchange keeps true of its parts.
 use Rattle.std.specs.Prelude.{◌≡◌, ℕ, ◌+◌, ◌≤◌, List, length}
 use Rattle.condition_sets.specs.declared.amount.TheConstants.{MAX_AMOUNT}
-use Rattle.settle_core.specs.declared.limits.TheConstants.{MAX_HISTORY}
-use Rattle.settle_core.specs.declared.command_words.act.Act.{Act}
+use Rattle.command_words.specs.declared.act.TheConstants.{MAX_HISTORY}
+use Rattle.command_words.specs.declared.act.Act.{Act}
 use Rattle.settle_core.specs.Book.{conditions, postings}
 use Rattle.settle_core.specs.Bounds.{Bounds}
 use Rattle.settle_core.specs.Holdings.{Holdings, amount_at, supply_at}
-use Rattle.settle_core.specs.Keys.{Collection}
+use Rattle.command_words.specs.Keys.{Collection}
 use Rattle.settle_core.specs.Legal.{IsLegal}
 use Rattle.settle_core.specs.Postings.{vault, credits, debits, minted, burnt}
 use Rattle.settle_core.specs.Table.{Table}

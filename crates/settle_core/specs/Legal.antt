@@ -1,8 +1,8 @@
 -- Legal histories: each act was accepted over the acts before it.
 use Rattle.std.specs.Prelude.{◌≡◌, ℕ, true, List, take, slice_get, Some, None}
-use Rattle.settle_core.specs.declared.command_words.act.Act.{Act}
+use Rattle.command_words.specs.declared.act.Act.{Act}
 use Rattle.settle_core.specs.Bounds.{Bounds}
-use Rattle.settle_core.specs.Command.{makes_act, in_ranges, is_built}
+use Rattle.command_words.specs.Command.{makes_act, in_ranges, is_built}
 use Rattle.settle_core.specs.Verdict.{question_of, verdict}
 
 -- the act's command makes an act and is carried out so far, its members are in their ranges, and the verdict on it refuses nothing

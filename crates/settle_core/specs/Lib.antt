@@ -1,16 +1,12 @@
 pub mod Book
 pub mod Bounds
-pub mod Clock
-pub mod Command
 pub mod Holdings
 pub mod Kept
-pub mod Keys
 pub mod Legal
 pub mod Limits
 pub mod Planned
 pub mod Planning
 pub mod Postings
-pub mod Refusal
 pub mod Reply
 pub mod Staging
 pub mod State

@@ -1,7 +1,7 @@
 -- What contracts see of a plan.
 use Rattle.std.specs.Prelude.{Option}
-use Rattle.settle_core.specs.declared.command_words.act.Act.{Act}
-use Rattle.settle_core.specs.declared.command_words.reply.Reply.{Reply}
+use Rattle.command_words.specs.declared.act.Act.{Act}
+use Rattle.command_words.specs.declared.reply.Reply.{Reply}
 use Rattle.settle_core.specs.Staging.{Changes}
 
 -- the act to be, the copy of it until that is taken, the changes that it makes, and the reply

@@ -1,12 +1,12 @@
 -- What accounts hold, by what was posted to them.
 -- Source: Gnosis Conditional Tokens, developer documentation.
 use Rattle.std.specs.Prelude.{◌==◌, ℕ, ◌-◌, List, sum_by, if◌then◌else◌}
-use Rattle.settle_core.specs.declared.command_words.command.Command.{Command}
-use Rattle.settle_core.specs.declared.command_words.command.Command.TheVariants.{Deposit, Prepare, Split, Balance, Vault}
-use Rattle.settle_core.specs.declared.command_words.act.Act.{Act}
+use Rattle.command_words.specs.declared.command.Command.{Command}
+use Rattle.command_words.specs.declared.command.Command.TheVariants.{Deposit, Prepare, Split, Balance, Vault}
+use Rattle.command_words.specs.declared.act.Act.{Act}
 use Rattle.settle_core.specs.declared.ledger_book.posting.Posting.{Posting}
 use Rattle.settle_core.specs.Book.{postings}
-use Rattle.settle_core.specs.Keys.{Collection, same_collection}
+use Rattle.command_words.specs.Keys.{Collection, same_collection}
 
 -- what a posting pays to a collection and takes from it, whoever holds it
 abbrev pub paid_to : Collection → Posting → ℕ

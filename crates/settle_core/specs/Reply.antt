@@ -1,14 +1,13 @@
 -- The replies, and what the history is after them.
 use Rattle.std.specs.Prelude.{◌≡◌, ℕ, ◌+◌, ◌≤◌, Bool, true, false, MatchBool, if◌then◌else◌, List, [], ◌∷◌, ◌++◌, length, Option, Some, None, ⊤}
-use Rattle.settle_core.specs.declared.command_words.command.Command.{Command}
-use Rattle.settle_core.specs.declared.command_words.command.Command.TheVariants.{Deposit, Prepare, Split, Balance, Vault}
-use Rattle.settle_core.specs.declared.command_words.act.Act.{Act}
-use Rattle.settle_core.specs.declared.command_words.refusal.Refusal.{Refusal}
-use Rattle.settle_core.specs.declared.command_words.refusal.Refusal.TheVariants.{NotAllowed, NoCondition, AlreadyPrepared, TableFull, Unfunded, VaultLimit, SupplyLimit, HistoryFull, Memory}
-use Rattle.settle_core.specs.declared.command_words.reply.Reply.{Reply}
-use Rattle.settle_core.specs.declared.command_words.reply.Reply.TheVariants.{Done, Prepared, Balanced, Vaulted, Refused, Bad}
-use Rattle.settle_core.specs.declared.limits.TheConstants.{MAX_HISTORY}
-use Rattle.settle_core.specs.Command.{makes_act}
+use Rattle.command_words.specs.declared.command.Command.{Command}
+use Rattle.command_words.specs.declared.command.Command.TheVariants.{Deposit, Prepare, Split, Balance, Vault}
+use Rattle.command_words.specs.declared.act.Act.{Act}
+use Rattle.command_words.specs.declared.refusal.Refusal.{Refusal}
+use Rattle.command_words.specs.declared.refusal.Refusal.TheVariants.{NotAllowed, NoCondition, AlreadyPrepared, TableFull, Unfunded, VaultLimit, SupplyLimit, HistoryFull, Memory}
+use Rattle.command_words.specs.declared.reply.Reply.{Reply}
+use Rattle.command_words.specs.declared.reply.Reply.TheVariants.{Done, Prepared, Balanced, Vaulted, Refused, Bad}
+use Rattle.command_words.specs.Command.{makes_act}
 use Rattle.settle_core.specs.Book.{conditions}
 use Rattle.settle_core.specs.Postings.{vault, balance}
 use Rattle.settle_core.specs.Verdict.{Question, verdict}
@@ -69,21 +68,3 @@ is_no_memory (Bad fault) = false
 abbrev pub Answered : Question → Reply → List Act → Type 0
 Answered q reply after =
     MatchBool (is_no_memory reply) ((reply ≡ no_memory) × (after ≡ q.history)) ((reply ≡ reply_to q) × (after ≡ history_after q))
-
--- how many acts of the history a reply rests on
-abbrev pub rests_of : Reply → ℕ
-rests_of (Done lsn) = lsn + 1
-rests_of (Prepared condition lsn) = lsn + 1
-rests_of (Balanced amount rests) = rests
-rests_of (Vaulted rests vault) = rests
-rests_of (Refused refusal rests) = rests
-rests_of (Bad fault) = 0
-
--- the numbers of acts in a reply are within the longest history
-abbrev pub IsSound : Reply → Type 0
-IsSound (Done lsn) = lsn ≤ MAX_HISTORY
-IsSound (Prepared condition lsn) = lsn ≤ MAX_HISTORY
-IsSound (Balanced amount rests) = rests ≤ MAX_HISTORY
-IsSound (Vaulted rests vault) = rests ≤ MAX_HISTORY
-IsSound (Refused refusal rests) = rests ≤ MAX_HISTORY
-IsSound (Bad fault) = ⊤

@@ -10,7 +10,7 @@ use Rattle.settle_core.specs.declared.ledger_book.staged.DebitFault.TheVariants.
 use Rattle.settle_core.specs.declared.ledger_book.staged.PostFault.{PostFault}
 use Rattle.settle_core.specs.declared.ledger_book.staged.PostFault.TheVariants.{Short as ShortBy, Memory as OutOfMemory}
 use Rattle.settle_core.specs.Book.{credit, debit}
-use Rattle.settle_core.specs.Keys.{Collection}
+use Rattle.command_words.specs.Keys.{Collection}
 use Rattle.settle_core.specs.Postings.{minted, burnt, credits, debits}
 
 -- what contracts see of staged changes: the postings in their order, and the change of the vault

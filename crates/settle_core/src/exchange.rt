@@ -1,27 +1,28 @@
 ghost use Rattle.std.specs.Prelude.{◌≡◌, ℕ, ◌+◌, ◌<◌, ◌≤◌, [], ◌∷◌, ◌++◌, true, false, None, Some, length, nat_le, option_map, OnOk, OnErr, IfOk};
-ghost use Rattle.settle_core.specs.declared.command_words.refusal.Refusal.TheVariants.{SupplyLimit, HistoryFull};
+ghost use Rattle.command_words.specs.declared.refusal.Refusal.TheVariants.{SupplyLimit, HistoryFull};
 ghost use Rattle.std.specs.Result.{result_err};
 ghost use Rattle.condition_sets.specs.declared.amount.TheConstants.{MAX_AMOUNT};
 ghost use Rattle.condition_sets.specs.declared.slot_count.TheConstants.{MIN_SLOTS, MAX_SLOTS};
-ghost use Rattle.settle_core.specs.declared.command_words.command.TheConstants.{MAX_SETS};
-ghost use Rattle.settle_core.specs.Command.{makes_act, in_ranges, is_built};
+ghost use Rattle.command_words.specs.declared.command.TheConstants.{MAX_SETS};
+ghost use Rattle.command_words.specs.Command.{makes_act, in_ranges, is_built};
 ghost use Rattle.settle_core.specs.Book.{conditions, prepared_by};
 ghost use Rattle.settle_core.specs.Holdings.{amount_at, supply_at};
-ghost use Rattle.settle_core.specs.Keys.{Collection};
+ghost use Rattle.command_words.specs.Keys.{Collection};
 ghost use Rattle.settle_core.specs.Legal.{IsLegal};
 ghost use Rattle.std.specs.List.{list_any};
 ghost use Rattle.settle_core.specs.Postings.{vault, balance, supply};
-ghost use Rattle.settle_core.specs.Reply.{act_of, accepted_reply, reply_to, IsSound};
+ghost use Rattle.settle_core.specs.Reply.{act_of, accepted_reply, reply_to};
+ghost use Rattle.command_words.specs.Reply.{IsSound};
 ghost use Rattle.settle_core.specs.State.{State, asked, IsSame, AreChangesOf, IsPlanFor};
 ghost use Rattle.settle_core.specs.Staging.{oversupplied};
 ghost use Rattle.settle_core.specs.Verdict.{verdict, where_, first_some, prepares_again, is_above_table, AnsweredBy};
 
-use crate::command_words::{Act, Acts, Command, Refusal, Reply};
 use crate::condition_table::Conditions;
 use crate::ledger_book::{Ledger, LedgerFull, Staged};
 use crate::limits::Limits;
 use crate::plan::Plan;
 use crate::split_merge::{PlanFault, plan_split};
+use command_words::{Act, Acts, Command, Refusal, Reply};
 use condition_sets::{
     AccountId, Bits, ConditionId, EXCHANGE, ListOf, MAX_AMOUNT, NoMemory, OPERATOR, Pairs,
     SlotCount,

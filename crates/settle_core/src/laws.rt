@@ -1,11 +1,11 @@
 //! Laws of the rules: sentences about every history and every command, each proved once.
 
 ghost use Rattle.std.specs.Prelude.{◌≡◌, ℕ, ◌≤◌, List, Option, Some, None, Contains};
-ghost use Rattle.settle_core.specs.declared.command_words.act.Act.{Act};
-ghost use Rattle.settle_core.specs.declared.command_words.refusal.Refusal.{Refusal};
-ghost use Rattle.settle_core.specs.Keys.{root};
+ghost use Rattle.command_words.specs.declared.act.Act.{Act};
+ghost use Rattle.command_words.specs.declared.refusal.Refusal.{Refusal};
+ghost use Rattle.command_words.specs.Keys.{root};
 ghost use Rattle.settle_core.specs.Postings.{supply, vault};
-ghost use Rattle.settle_core.specs.Refusal.{code_of};
+ghost use Rattle.command_words.specs.Refusal.{code_of};
 ghost use Rattle.settle_core.specs.Verdict.{Question, Applies, refusals, verdict};
 
 /// The verdict is the refusal with the lowest number whose condition holds, and there is none where no condition holds.

@@ -1,11 +1,10 @@
-//! The exchange as a value: what a command is, what it is answered, and the history that it leaves.
+//! The exchange as a value: what a command is answered, and the history that it leaves.
 //!
 //! `specs/` has the rules: [`Exchange`] is seen as its limits, its history and its room, and each of its calls
 //! promises the verdict, the reply and the history that the rules give. The conditions, balances and running
 //! totals that it keeps are told only as what the history gives.
 #![tactic(auto)]
 
-mod command_words;
 mod condition_table;
 mod exchange;
 pub mod laws;
@@ -14,13 +13,10 @@ mod limits;
 mod plan;
 mod split_merge;
 
-pub use command_words::{
-    Act, Acts, Clock, Command, LineFault, ListClock, MAX_SETS, Refusal, Reply,
-};
 pub use condition_table::{Conditions, Facts};
 pub use exchange::Exchange;
 pub use ledger_book::{DebitFault, Holding, Ledger, LedgerFull, PostFault, Posting, Staged};
-pub use limits::{Limits, MAX_HISTORY};
+pub use limits::Limits;
 pub use plan::Plan;
 pub use split_merge::{PlanFault, plan_split};
 

@@ -1,10 +1,8 @@
 ghost use Rattle.std.specs.Prelude.{◌≡◌, ◌↔◌, ◌+◌, ◌≤◌, IsSome, IfSome};
 ghost use Rattle.condition_sets.specs.declared.names.TheConstants.{MAX_CONDITION};
 
+use command_words::MAX_HISTORY;
 use std::marker::Model;
-
-/// The most acts that a history has.
-pub const MAX_HISTORY: u32 = 1_000_000;
 
 /// The most conditions that are prepared.
 const STANDARD_CONDITIONS: u16 = 4_096;

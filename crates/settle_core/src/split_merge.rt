@@ -3,13 +3,13 @@ ghost use Rattle.condition_sets.specs.declared.amount.TheConstants.{MAX_AMOUNT};
 ghost use Rattle.settle_core.specs.declared.ledger_book.staged.TheConstants.{MAX_VOLUME};
 ghost use Rattle.settle_core.specs.Book.{credit, split_postings};
 ghost use Rattle.settle_core.specs.Holdings.{amount_at};
-ghost use Rattle.settle_core.specs.Keys.{Collection, root, set_of};
+ghost use Rattle.command_words.specs.Keys.{Collection, root, set_of};
 ghost use Rattle.settle_core.specs.Staging.{volume, IsFunded};
-ghost use Rattle.settle_core.specs.declared.command_words.command.TheConstants.{MAX_SETS};
+ghost use Rattle.command_words.specs.declared.command.TheConstants.{MAX_SETS};
 ghost use Rattle.settle_core.specs.Planning.{PlannedBy};
 
-use crate::command_words::MAX_SETS;
 use crate::ledger_book::{DebitFault, Ledger, Staged};
+use command_words::MAX_SETS;
 use condition_sets::{AccountId, ConditionId, NoMemory, Pairs};
 use std::alloc::Global;
 

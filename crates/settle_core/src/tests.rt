@@ -1,4 +1,5 @@
 use super::*;
+use command_words::{Act, Clock, Command, LineFault, ListClock, Refusal, Reply};
 use condition_sets::{AccountId, Bits, ConditionId, NoMemory, Pairs};
 use std::alloc::Global;
 use std::process::Abort;
@@ -310,7 +311,13 @@ fn supplies(rt: HostRuntime) -> Result<(), Fail> {
 fn splits_the_full_vault(rt: HostRuntime) -> Result<(), Fail> {
     let whole = halves(rt.alloc(), 0, FULL_VAULT)?;
     let steps = [
-        (0, deposit(2, FULL_VAULT), "Ok(Done { lsn: 0 })", 1, FULL_VAULT),
+        (
+            0,
+            deposit(2, FULL_VAULT),
+            "Ok(Done { lsn: 0 })",
+            1,
+            FULL_VAULT,
+        ),
         (2, prepare(3, 7), PREPARED, 2, FULL_VAULT),
         (2, whole, "Ok(Done { lsn: 2 })", 3, FULL_VAULT),
     ];

@@ -1,17 +1,17 @@
 ghost use Rattle.std.specs.Prelude.{◌≡◌, [], ◌∷◌, if◌then◌else◌, Some, None, true, IfOk, codes, option_and_then, option_map};
 ghost use Rattle.serde_json.specs.View.{view, items_view};
 ghost use Rattle.serde_json.specs.Find.{get, as_array};
-ghost use Rattle.settle_core.specs.Command.{is_account, in_ranges, is_built};
-ghost use Rattle.settle_core.specs.declared.command_words.command.Command.TheVariants.{Split, Balance};
+ghost use Rattle.command_words.specs.Command.{is_account, in_ranges, is_built};
+ghost use Rattle.command_words.specs.declared.command.Command.TheVariants.{Split, Balance};
 ghost use Rattle.exchange_top.specs.Json.{number_at, text_at, two_in, pair_in, pairs_in, sets_in, member_count};
 ghost use Rattle.exchange_top.specs.Ranged.{ranged_account, ranged_condition, ranged_pair, ranged_command};
 ghost use Rattle.exchange_top.specs.CommandText.{deposit_in, prepare_in, split_in, split_by, balance_in, command_in};
 ghost use Rattle.exchange_top.specs.Request.{request, ReadAs, request_in, request_by, ranged};
 
 use crate::wire_json::request::Request;
+use command_words::{Command, LineFault};
 use condition_sets::{AccountId, Bits, ConditionId, NoMemory, Pairs};
 use serde_json::{Category, Value};
-use settle_core::{Command, LineFault};
 use std::alloc::Global;
 
 /// The request that a line is, or why it is none: `NotJson` exactly where it is no JSON text, `NotCommand`

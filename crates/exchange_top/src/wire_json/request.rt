@@ -1,5 +1,5 @@
+use command_words::Command;
 use condition_sets::AccountId;
-use settle_core::Command;
 
 /// Who asks, and what.
 #[derive(Debug, Drop)]

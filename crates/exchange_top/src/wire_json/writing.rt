@@ -1,9 +1,9 @@
 ghost use Rattle.std.specs.Prelude.{◌≡◌, ◌+◌, ◌≤◌, [], ◌++◌, length};
 ghost use Rattle.exchange_top.specs.ReplyText.{text_of, refusal_text, plain_text, limit_text, fault_text};
-ghost use Rattle.settle_core.specs.declared.command_words.refusal.Refusal.TheVariants.{Unfunded, VaultLimit, SupplyLimit};
+ghost use Rattle.command_words.specs.declared.refusal.Refusal.TheVariants.{Unfunded, VaultLimit, SupplyLimit};
 
 use crate::wire_json::text::Text;
-use settle_core::{LineFault, Refusal, Reply};
+use command_words::{LineFault, Refusal, Reply};
 
 /// Makes the text of a reply: one JSON object without spaces, with its members in ascending order, and a newline.
 /// It takes no memory.

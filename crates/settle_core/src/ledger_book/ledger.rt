@@ -4,7 +4,7 @@ ghost use Rattle.condition_sets.specs.declared.amount.TheConstants.{MAX_AMOUNT};
 ghost use Rattle.settle_core.specs.declared.ledger_book.staged.TheConstants.{MAX_VOLUME};
 ghost use Rattle.settle_core.specs.declared.ledger_book.ledger.LedgerFull.TheVariants.{Supply};
 ghost use Rattle.settle_core.specs.Holdings.{Holdings, HoldSame, amount_at, amount_in, supply_at, supply_in, is_at, posted_in};
-ghost use Rattle.settle_core.specs.Keys.{Collection};
+ghost use Rattle.command_words.specs.Keys.{Collection};
 ghost use Rattle.settle_core.specs.Postings.{minted, burnt, credits, debits};
 ghost use Rattle.settle_core.specs.Staging.{volume, IsFunded, oversupplied, is_above_supply, least_from, comes_before};
 
@@ -35,7 +35,7 @@ pub enum LedgerFull {
 impl Model for Ledger {
     ghost use Rattle.std.specs.Prelude.{ℕ, ◌-◌, ◌≤◌, vec_len, vec_capacity};
     ghost use Rattle.settle_core.specs.Holdings.{Holdings, supply_in};
-    ghost use Rattle.settle_core.specs.Keys.{Collection};
+    ghost use Rattle.command_words.specs.Keys.{Collection};
     ghost use Rattle.condition_sets.specs.declared.amount.TheConstants.{MAX_AMOUNT};
 
     ghost Value = { Holdings };

@@ -2,7 +2,7 @@ ghost use Rattle.std.specs.Prelude.{◌≡◌, ℕ, ℤ, pos, ◌+◌, ◌-◌, 
 ghost use Rattle.condition_sets.specs.declared.amount.TheConstants.{MAX_AMOUNT};
 ghost use Rattle.settle_core.specs.Book.{credit, debit};
 ghost use Rattle.settle_core.specs.Holdings.{amount_at};
-ghost use Rattle.settle_core.specs.Keys.{Collection};
+ghost use Rattle.command_words.specs.Keys.{Collection};
 ghost use Rattle.settle_core.specs.Postings.{credits, debits, minted, burnt};
 ghost use Rattle.settle_core.specs.Staging.{volume, left_at, signed_posting, IsFunded, DebitedBy, PostedBy};
 

@@ -1,5 +1,5 @@
 use Rattle.std.proofs.Common.{List, sym, subst}
-use Rattle.settle_core.specs.declared.command_words.act.Act.{Act}
+use Rattle.command_words.specs.declared.act.Act.{Act}
 use Rattle.settle_core.specs.Kept.{IsKept}
 use Rattle.settle_core.specs.Legal.{IsAccepted}
 use Rattle.settle_core.specs.Staging.{Changes}

@@ -1,5 +1,5 @@
 use Rattle.std.proofs.Common.{◌≡◌, List, false, sym, subst}
-use Rattle.settle_core.specs.declared.command_words.act.Act.{Act}
+use Rattle.command_words.specs.declared.act.Act.{Act}
 use Rattle.settle_core.specs.Book.{conditions}
 use Rattle.settle_core.specs.State.{State, asked}
 use Rattle.settle_core.specs.Verdict.{is_above_table}

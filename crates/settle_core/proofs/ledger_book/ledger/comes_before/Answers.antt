@@ -3,7 +3,7 @@ use Rattle.std.specs.Prelude.{option_map}
 use Rattle.std.specs.Ordering.{is_lt}
 use Rattle.std.specs.Cmp.Lexicographic.{slice_cmp}
 use Rattle.settle_core.specs.Staging.{comes_before, pair_cmp}
-use Rattle.settle_core.specs.Keys.{Collection}
+use Rattle.command_words.specs.Keys.{Collection}
 use Rattle.settle_core.proofs.ledger_book.ledger.comes_before.Goals as goal
 
 pub returns-in-Some : goal.returns-in-Some

@@ -1,7 +1,7 @@
 use Rattle.std.proofs.Common.{◌≡◌, ◌+◌, List, None, sym, subst, arith}
 use Rattle.settle_core.specs.declared.ledger_book.posting.Posting.{Posting}
 use Rattle.settle_core.specs.Holdings.{Holdings, supply_at, supply_in}
-use Rattle.settle_core.specs.Keys.{Collection}
+use Rattle.command_words.specs.Keys.{Collection}
 use Rattle.settle_core.specs.Postings.{minted, burnt}
 use Rattle.settle_core.specs.Staging.{oversupplied}
 use Rattle.settle_core.proofs.Supplies.{within_limit}

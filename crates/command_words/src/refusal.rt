@@ -1,5 +1,5 @@
 ghost use Rattle.std.specs.Prelude.{◌≡◌};
-ghost use Rattle.settle_core.specs.declared.command_words.refusal.Refusal.TheVariants.{Memory};
+ghost use Rattle.command_words.specs.declared.refusal.Refusal.TheVariants.{Memory};
 
 use condition_sets::NoMemory;
 use std::alloc::AllocError;
@@ -28,7 +28,7 @@ pub enum Refusal {
 }
 
 impl Refusal {
-    ghost use Rattle.settle_core.specs.Refusal.{code_of};
+    ghost use Rattle.command_words.specs.Refusal.{code_of};
 
     /// The refusal's number, which clients see.
     pub fn code(&self) -> u8

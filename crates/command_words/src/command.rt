@@ -1,7 +1,7 @@
 ghost use Rattle.std.specs.Prelude.{◌≡◌, IfOk};
-ghost use Rattle.settle_core.specs.Keys.{is_condition, is_simple, is_yes_and_no};
+ghost use Rattle.command_words.specs.Keys.{is_condition, is_simple, is_yes_and_no};
 ghost use Rattle.std.specs.List.{list_all};
-ghost use Rattle.settle_core.specs.Command.{is_sets};
+ghost use Rattle.command_words.specs.Command.{is_sets};
 
 use condition_sets::{
     AccountId, Bits, ConditionId, MAX_AMOUNT, MAX_CONDITION, MAX_SLOTS, MIN_SLOTS, NoMemory, Pairs,
@@ -45,7 +45,7 @@ pub enum Command {
 }
 
 impl Command {
-    ghost use Rattle.settle_core.specs.Command.{makes_act, in_ranges, is_built};
+    ghost use Rattle.command_words.specs.Command.{makes_act, in_ranges, is_built};
 
     /// Whether the command becomes an act of the history where it is accepted; the others are readings.
     pub fn makes_act(&self) -> bool

@@ -1,5 +1,5 @@
 ghost use Rattle.std.specs.Prelude.{◌≡◌, ℕ, List, ◌∷◌, [], ◌++◌};
-ghost use Rattle.settle_core.specs.Clock.{Counts, Ticking};
+ghost use Rattle.command_words.specs.Clock.{Counts, Ticking};
 
 use std::marker::Model;
 
@@ -22,7 +22,7 @@ pub struct ListClock {
 }
 
 impl Model for ListClock {
-    ghost use Rattle.settle_core.specs.Clock.{Ticking};
+    ghost use Rattle.command_words.specs.Clock.{Ticking};
 
     ghost Value = { Ticking };
 

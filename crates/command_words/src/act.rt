@@ -1,8 +1,11 @@
 ghost use Rattle.std.specs.Prelude.{◌≡◌, IfOk};
 
-use crate::command_words::command::Command;
+use crate::command::Command;
 use condition_sets::{AccountId, ListOf, NoMemory};
 use std::alloc::Global;
+
+/// The most acts that a history has.
+pub const MAX_HISTORY: u32 = 1_000_000;
 
 /// One accepted command of the history: when it was accepted, in the clock's units, and who asked.
 #[derive(Debug, Drop)]

@@ -1,6 +1,6 @@
 use Rattle.std.proofs.Common.{sym, subst}
-use Rattle.settle_core.specs.Clock.{Ticking, Counts, Counts-more}
-use Rattle.settle_core.proofs.command_words.clock.ListClockClock.now.Goals as goal
+use Rattle.command_words.specs.Clock.{Ticking, Counts, Counts-more}
+use Rattle.command_words.proofs.clock.ListClockClock.now.Goals as goal
 
 pub returns-clause-told : goal.returns-clause-told
 returns-clause-told c =

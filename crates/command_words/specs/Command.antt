@@ -2,11 +2,11 @@
 use Rattle.std.specs.Prelude.{◌==◌, ℕ, ◌^◌, ◌&&◌, Bool, true, false, nat_lt, nat_le, List, length}
 use Rattle.condition_sets.specs.declared.amount.TheConstants.{MAX_AMOUNT}
 use Rattle.condition_sets.specs.declared.slot_count.TheConstants.{MIN_SLOTS, MAX_SLOTS}
-use Rattle.settle_core.specs.declared.command_words.command.TheConstants.{MAX_QUESTION, MAX_SETS}
+use Rattle.command_words.specs.declared.command.TheConstants.{MAX_QUESTION, MAX_SETS}
 use Rattle.std.specs.List.{list_all}
-use Rattle.settle_core.specs.Keys.{is_condition, is_root, is_simple, is_yes_and_no}
-use Rattle.settle_core.specs.declared.command_words.command.Command.{Command}
-use Rattle.settle_core.specs.declared.command_words.command.Command.TheVariants.{Deposit, Prepare, Split, Balance, Vault}
+use Rattle.command_words.specs.Keys.{is_condition, is_root, is_simple, is_yes_and_no}
+use Rattle.command_words.specs.declared.command.Command.{Command}
+use Rattle.command_words.specs.declared.command.Command.TheVariants.{Deposit, Prepare, Split, Balance, Vault}
 
 -- whether the command becomes an act of the history where it is accepted; the others are readings
 abbrev pub makes_act : Command → Bool

@@ -1,7 +1,7 @@
 -- The refusals by their numbers.
 use Rattle.std.specs.Prelude.{ℕ}
-use Rattle.settle_core.specs.declared.command_words.refusal.Refusal.{Refusal}
-use Rattle.settle_core.specs.declared.command_words.refusal.Refusal.TheVariants.{NotAllowed, NoCondition, AlreadyPrepared, TableFull, Unfunded, VaultLimit, SupplyLimit, HistoryFull, Memory}
+use Rattle.command_words.specs.declared.refusal.Refusal.{Refusal}
+use Rattle.command_words.specs.declared.refusal.Refusal.TheVariants.{NotAllowed, NoCondition, AlreadyPrepared, TableFull, Unfunded, VaultLimit, SupplyLimit, HistoryFull, Memory}
 
 abbrev pub code_of : Refusal → ℕ
 code_of NotAllowed = 5

@@ -1,6 +1,6 @@
 ghost use Rattle.std.specs.Prelude.{◌≡◌};
 
-use crate::command_words::refusal::Refusal;
+use crate::refusal::Refusal;
 use condition_sets::ConditionId;
 
 /// Why a line is no request.
@@ -35,7 +35,7 @@ pub enum Reply {
 }
 
 impl Reply {
-    ghost use Rattle.settle_core.specs.Reply.{rests_of, IsSound};
+    ghost use Rattle.command_words.specs.Reply.{rests_of, IsSound};
 
     /// How many acts of the history the reply rests on: all of these have to be kept before it is told.
     pub fn rests(&self) -> u64
