@@ -1,12 +1,13 @@
 -- What one act more does to a history.
 use Rattle.std.proofs.Common.{◌≡◌, ℕ, ◌+◌, ◌<◌, List, [], ◌∷◌, ◌++◌, length, take, get_or, Some, sym, ◌∙◌, ap, subst, inl, inr, arith, length-append}
-use Rattle.std.specs.Prelude.{slice_get, sum_by}
+use Rattle.std.specs.Prelude.{slice_get, sum_by, All}
 use Rattle.std.proofs.lemmas.Bool.{cases_lt}
 use Rattle.std.proofs.lemmas.List.{get_or_append_left, take-append-le}
 use Rattle.std.proofs.lemmas.List.Sums.{sum_by_push, sum_by-append}
 use Rattle.std.proofs.lemmas.Option.{slice_get_within, slice_get-get_or}
 use Rattle.std.proofs.Math.Seq.{get_or-append_seam, take-append_seam}
 use Rattle.command_words.specs.declared.act.Act.{Act}
+use Rattle.settle_core.specs.Askable.{IsAskable}
 use Rattle.settle_core.specs.Bounds.{Bounds}
 use Rattle.settle_core.specs.Legal.{IsAccepted, IsLegal}
 use Rattle.settle_core.specs.declared.ledger_book.posting.Posting.{Posting}
@@ -42,6 +43,12 @@ IsLegal-more limits history act legal accepted place other at =
           let P : List Act → Type 0 = λ acts. IsAccepted limits acts other in
           subst P (sym taken) (subst (IsAccepted limits history) (at_last history act other place end at) accepted)
     ]
+
+-- each act of a legal history may be asked again
+pub legal-askable : (limits : Bounds) (history : List Act) → IsLegal limits history → All IsAskable history
+legal-askable limits history legal place act inside =
+    let is = legal place (get_or history place act) (slice_get-get_or history place act inside) in
+    record { makes_act = is.makes_act; in_ranges = is.in_ranges; is_built = is.is_built }
 
 -- an act more pays its deposit into the vault
 pub vault-more : (history : List Act) (act : Act) → vault (history ++ act ∷ []) ≡ vault history + deposit_of act.command

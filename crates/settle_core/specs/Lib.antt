@@ -1,3 +1,4 @@
+pub mod Askable
 pub mod Book
 pub mod Bounds
 pub mod Holdings
@@ -7,6 +8,7 @@ pub mod Limits
 pub mod Planned
 pub mod Planning
 pub mod Postings
+pub mod Replay
 pub mod Reply
 pub mod Staging
 pub mod State

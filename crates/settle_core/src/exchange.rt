@@ -1,6 +1,7 @@
-ghost use Rattle.std.specs.Prelude.{◌≡◌, ℕ, ◌+◌, ◌<◌, ◌≤◌, [], ◌∷◌, ◌++◌, true, false, None, Some, length, nat_le, option_map, OnOk, OnErr, IfOk};
+ghost use Rattle.std.specs.Prelude.{◌≡◌, ℕ, ◌+◌, ◌<◌, ◌≤◌, [], ◌∷◌, ◌++◌, true, false, None, Some, length, nat_le, option_map, All, OnOk, OnErr, IfOk};
 ghost use Rattle.command_words.specs.declared.refusal.Refusal.TheVariants.{SupplyLimit, HistoryFull};
 ghost use Rattle.std.specs.Result.{result_err};
+ghost use Rattle.command_words.specs.declared.act.TheConstants.{MAX_HISTORY};
 ghost use Rattle.condition_sets.specs.declared.amount.TheConstants.{MAX_AMOUNT};
 ghost use Rattle.condition_sets.specs.declared.slot_count.TheConstants.{MIN_SLOTS, MAX_SLOTS};
 ghost use Rattle.command_words.specs.declared.command.TheConstants.{MAX_SETS};
@@ -11,6 +12,7 @@ ghost use Rattle.command_words.specs.Keys.{Collection};
 ghost use Rattle.settle_core.specs.Legal.{IsLegal};
 ghost use Rattle.std.specs.List.{list_any};
 ghost use Rattle.settle_core.specs.Postings.{vault, balance, supply};
+ghost use Rattle.settle_core.specs.Askable.{IsAskable};
 ghost use Rattle.settle_core.specs.Reply.{act_of, accepted_reply, reply_to};
 ghost use Rattle.command_words.specs.Reply.{IsSound};
 ghost use Rattle.settle_core.specs.State.{State, asked, IsSame, AreChangesOf, IsPlanFor};
@@ -174,6 +176,8 @@ impl Exchange {
     pub fn history(&self) -> &[Act]
         ensures value { result.now ≡ self.now.history }
         ensures legal { IsLegal self.now.limits result.now }
+        ensures askable { All IsAskable result.now }
+        ensures within { length result.now ≤ MAX_HISTORY }
     {
         self.history.as_slice()
     }

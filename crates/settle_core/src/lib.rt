@@ -11,6 +11,7 @@ pub mod laws;
 mod ledger_book;
 mod limits;
 mod plan;
+mod replay;
 mod split_merge;
 
 pub use condition_table::{Conditions, Facts};
@@ -18,6 +19,7 @@ pub use exchange::Exchange;
 pub use ledger_book::{DebitFault, Holding, Ledger, LedgerFull, PostFault, Posting, Staged};
 pub use limits::Limits;
 pub use plan::Plan;
+pub use replay::ReplayFault;
 pub use split_merge::{PlanFault, plan_split};
 
 #[cfg(test)]

@@ -532,3 +532,25 @@ fn codes_and_rests(rt: HostRuntime) -> Result<(), Fail> {
     assert_eq!(rt; rests, [4, 5, 8, 6, 7, 0]);
     Ok(())
 }
+
+#[test]
+fn replays(rt: HostRuntime) -> Result<(), Fail> {
+    let alloc = rt.alloc();
+    let steps = [
+        (0, deposit(2, 100), "Ok(Done { lsn: 0 })", 1, 100),
+        (2, prepare(3, 7), PREPARED, 2, 100),
+        (2, halves(alloc, 0, 60)?, "Ok(Done { lsn: 2 })", 3, 100),
+    ];
+    let exchange = play(&rt, Limits::standard(), &steps)?;
+    let limits = Limits::small(1, 1, 1, 1, 2).ok_or("no limits")?;
+    let full = ReplayFault::Illegal { lsn: 2, code: 35 };
+    match Exchange::replay(alloc, limits, exchange.history()) {
+        Ok(_) => return Err("replayed".into()),
+        Err(fault) => assert_eq!(rt; fault, full),
+    }
+    match Exchange::replay(alloc, Limits::standard(), exchange.history()) {
+        Ok(again) => assert_eq!(rt; again.history().len(), 3),
+        Err(_) => return Err("not replayed".into()),
+    }
+    Ok(())
+}
