@@ -1,0 +1,5 @@
+use Rattle.act_bytes.specs.Unique.{one-spelling}
+use Rattle.act_bytes.proofs.laws.one_spelling.Goals as goal
+
+pub returns : goal.returns
+returns c = one-spelling

@@ -1,0 +1,16 @@
+//! The bytes of an act, as the journal keeps them.
+//!
+//! [`write_act`] writes the one spelling of an act, and [`read_act`] reads exactly what spells one: other bytes are
+//! none. The [`laws`] say that an act has one spelling, and that bytes spell at most one act.
+#![tactic(auto)]
+
+mod fault;
+pub mod laws;
+mod reading;
+mod writing;
+
+pub use reading::read_act;
+pub use writing::{MAX_ACT, write_act};
+
+#[cfg(test)]
+mod tests;
