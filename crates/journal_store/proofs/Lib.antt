@@ -1,2 +1,4 @@
+pub mod Cutting
+pub mod Numbers
 mod Ready
 mod Sizes

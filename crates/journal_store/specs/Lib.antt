@@ -1,7 +1,9 @@
 pub mod AppendLaws
 pub mod Batches
+pub mod Cut
 pub mod Format
 pub mod FormatLaws
+pub mod Found
 pub mod Journal
 pub mod MakeLaws
 pub mod Sized

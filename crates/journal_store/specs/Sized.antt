@@ -9,7 +9,7 @@ use Rattle.journal_store.specs.Format.{IsPayload, payload_bytes, body, batch_byt
 use Rattle.journal_store.specs.declared.limits.TheConstants.{MAX_PAYLOAD}
 
 -- each payload takes at most so many bytes
-length-payload : (p : List ℕ) → length (payload_bytes p) ≡ 2 + length p
+pub length-payload : (p : List ℕ) → length (payload_bytes p) ≡ 2 + length p
 unfolding payload_bytes
 length-payload p = omega (arith, length-append (big_bytes 2 (length p)) p, length-bytes_high_first 2 (length p))
 

@@ -13,21 +13,21 @@ use Rattle.journal_store.specs.Stands.{HasGates, Stands}
 use Rattle.journal_store.specs.declared.limits.TheConstants.{VERSION}
 
 -- lists whose fronts are as long have the same fronts and the same rests
-same-front : (xs ys us vs : List ℕ) → length xs ≡ length ys → xs ++ us ≡ ys ++ vs → xs ≡ ys
+pub same-front : (xs ys us vs : List ℕ) → length xs ≡ length ys → xs ++ us ≡ ys ++ vs → xs ≡ ys
 same-front xs ys us vs long same = sym (take-append_seam xs us) ∙ (ap (take (length xs)) same ∙ (ap (λ (n : ℕ). take n (ys ++ vs)) long ∙ take-append_seam ys vs))
 
-same-rest : (xs ys us vs : List ℕ) → length xs ≡ length ys → xs ++ us ≡ ys ++ vs → us ≡ vs
+pub same-rest : (xs ys us vs : List ℕ) → length xs ≡ length ys → xs ++ us ≡ ys ++ vs → us ≡ vs
 same-rest xs ys us vs long same = sym (drop-append_seam xs us) ∙ (ap (drop (length xs)) same ∙ (ap (λ (n : ℕ). drop n (ys ++ vs)) long ∙ drop-append_seam ys vs))
 
 -- a number in front of bytes is told by them
-same-number : (width m n : ℕ) (us vs : List ℕ) → m < 256 ^ width → n < 256 ^ width → big_bytes width m ++ us ≡ big_bytes width n ++ vs → m ≡ n
+pub same-number : (width m n : ℕ) (us vs : List ℕ) → m < 256 ^ width → n < 256 ^ width → big_bytes width m ++ us ≡ big_bytes width n ++ vs → m ≡ n
 same-number width m n us vs small little same = sym (big_number-reads_back width m us small) ∙ (ap (big_number width) same ∙ big_number-reads_back width n vs little)
 
-sized-rest : (width m n : ℕ) (us vs : List ℕ) → big_bytes width m ++ us ≡ big_bytes width n ++ vs → us ≡ vs
+pub sized-rest : (width m n : ℕ) (us vs : List ℕ) → big_bytes width m ++ us ≡ big_bytes width n ++ vs → us ≡ vs
 sized-rest width m n us vs same = same-rest (big_bytes width m) (big_bytes width n) us vs (length-bytes_high_first width m ∙ sym (length-bytes_high_first width n)) same
 
 -- payloads with bytes behind them are told by their bytes, where as many bytes are theirs
-same-payload : (p q us vs : List ℕ) → IsPayload p → IsPayload q → payload_bytes p ++ us ≡ payload_bytes q ++ vs → (p ≡ q) × (us ≡ vs)
+pub same-payload : (p q us vs : List ℕ) → IsPayload p → IsPayload q → payload_bytes p ++ us ≡ payload_bytes q ++ vs → (p ≡ q) × (us ≡ vs)
 unfolding payload_bytes
 same-payload p q us vs fine good same =
     let whole : big_bytes 2 (length p) ++ (p ++ us) ≡ big_bytes 2 (length q) ++ (q ++ vs) = sym (append_assoc (big_bytes 2 (length p)) p us) ∙ (same ∙ append_assoc (big_bytes 2 (length q)) q vs) in
@@ -35,11 +35,11 @@ same-payload p q us vs fine good same =
     let rest = sized-rest 2 (length p) (length q) (p ++ us) (q ++ vs) whole in
     (same-front p q us vs long rest, same-rest p q us vs long rest)
 
-some-bytes : (p : List ℕ) (ps : List (List ℕ)) → body (p ∷ ps) ≡ [] → ⊥
+pub some-bytes : (p : List ℕ) (ps : List (List ℕ)) → body (p ∷ ps) ≡ [] → ⊥
 unfolding payload_bytes
 some-bytes p ps none = omega (arith, ap length none, ap length (flat_map-cons payload_bytes p ps), length-append (big_bytes 2 (length p) ++ p) (body ps), length-append (big_bytes 2 (length p)) p, length-bytes_high_first 2 (length p))
 
-same-body : (ps qs : List (List ℕ)) → All IsPayload ps → All IsPayload qs → body ps ≡ body qs → ps ≡ qs
+pub same-body : (ps qs : List (List ℕ)) → All IsPayload ps → All IsPayload qs → body ps ≡ body qs → ps ≡ qs
 same-body [] [] fine good same = refl
 same-body [] (q ∷ qs) fine good same = absurd (some-bytes q qs (sym same))
 same-body (p ∷ ps) [] fine good same = absurd (some-bytes p ps same)
@@ -47,10 +47,10 @@ same-body (p ∷ ps) (q ∷ qs) fine good same =
     let both = same-payload p q (body ps) (body qs) (All-head IsPayload p ps fine) (All-head IsPayload q qs good) (sym (flat_map-cons payload_bytes p ps) ∙ (same ∙ flat_map-cons payload_bytes q qs)) in
     ap (λ (x : List ℕ). x ∷ ps) both.0 ∙ ap (λ (xs : List (List ℕ)). q ∷ xs) (same-body ps qs (All-tail IsPayload p ps fine) (All-tail IsPayload q qs good) both.1)
 
-short-body : (ps : List (List ℕ)) → IsBatch ps → length (body ps) < 256 ^ 4
+pub short-body : (ps : List (List ℕ)) → IsBatch ps → length (body ps) < 256 ^ 4
 short-body ps is = grind (arith, body-within ps is.payloads, is.at_most)
 
-same-batch : (ps qs : List (List ℕ)) (us vs : List ℕ) → IsBatch ps → IsBatch qs → batch_bytes ps ++ us ≡ batch_bytes qs ++ vs → (ps ≡ qs) × (us ≡ vs)
+pub same-batch : (ps qs : List (List ℕ)) (us vs : List ℕ) → IsBatch ps → IsBatch qs → batch_bytes ps ++ us ≡ batch_bytes qs ++ vs → (ps ≡ qs) × (us ≡ vs)
 unfolding batch_bytes
 same-batch ps qs us vs is also same =
     let whole : big_bytes 4 (length (body ps)) ++ (body ps ++ us) ≡ big_bytes 4 (length (body qs)) ++ (body qs ++ vs) =
@@ -60,17 +60,17 @@ same-batch ps qs us vs is also same =
     (same-body ps qs is.payloads also.payloads (same-front (body ps) (body qs) us vs long rest), same-rest (body ps) (body qs) us vs long rest)
 
 -- the gates tell the batches behind them
-first-byte : (x y : ℕ) (us vs : List ℕ) → x ∷ us ≡ y ∷ vs → x ≡ y
+pub first-byte : (x y : ℕ) (us vs : List ℕ) → x ∷ us ≡ y ∷ vs → x ≡ y
 first-byte x y us vs same = cc
 
-later-bytes : (x y : ℕ) (us vs : List ℕ) → x ∷ us ≡ y ∷ vs → us ≡ vs
+pub later-bytes : (x y : ℕ) (us vs : List ℕ) → x ∷ us ≡ y ∷ vs → us ≡ vs
 later-bytes x y us vs same = cc
 
-open-first : (b : List (List ℕ)) (bs : List (List (List ℕ))) (xs : List ℕ) → opened (b ∷ bs) ++ xs ≡ 1 ∷ (batch_bytes b ++ (opened bs ++ xs))
+pub open-first : (b : List (List ℕ)) (bs : List (List (List ℕ))) (xs : List ℕ) → opened (b ∷ bs) ++ xs ≡ 1 ∷ (batch_bytes b ++ (opened bs ++ xs))
 open-first b bs xs =
     ap (λ (ys : List ℕ). ys ++ xs) (flat_map-cons (λ batch. 1 ∷ batch_bytes batch) b bs) ∙ append_assoc (1 ∷ batch_bytes b) (opened bs) xs
 
-same-gates : (bs cs : List (List (List ℕ))) (g h : ℕ) (us vs : List ℕ) → All IsBatch bs → All IsBatch cs → g ≢ 1 → h ≢ 1 → opened bs ++ g ∷ us ≡ opened cs ++ h ∷ vs → bs ≡ cs
+pub same-gates : (bs cs : List (List (List ℕ))) (g h : ℕ) (us vs : List ℕ) → All IsBatch bs → All IsBatch cs → g ≢ 1 → h ≢ 1 → opened bs ++ g ∷ us ≡ opened cs ++ h ∷ vs → bs ≡ cs
 same-gates [] [] g h us vs fine good shut closed same = refl
 same-gates [] (c ∷ cs) g h us vs fine good shut closed same = absurd (shut (first-byte g 1 us (batch_bytes c ++ (opened cs ++ h ∷ vs)) (same ∙ open-first c cs (h ∷ vs))))
 same-gates (b ∷ bs) [] g h us vs fine good shut closed same = absurd (closed (first-byte h 1 vs (batch_bytes b ++ (opened bs ++ g ∷ us)) (sym same ∙ open-first b bs (g ∷ us))))
@@ -80,7 +80,7 @@ same-gates (b ∷ bs) (c ∷ cs) g h us vs fine good shut closed same =
     ap (λ (x : List (List ℕ)). x ∷ bs) both.0 ∙ ap (λ (xs : List (List (List ℕ))). c ∷ xs) (same-gates bs cs g h us vs (All-tail IsBatch b bs fine) (All-tail IsBatch c cs good) shut closed both.1)
 
 -- an image of at most 17 bytes has no open gate
-none-short : (bs : List (List (List ℕ))) (g : ℕ) (rest image : List ℕ) → HasGates bs g rest image → length image ≤ 17 → payloads bs ≡ []
+pub none-short : (bs : List (List (List ℕ))) (g : ℕ) (rest image : List ℕ) → HasGates bs g rest image → length image ≤ 17 → payloads bs ≡ []
 none-short [] g rest image gates short = refl
 none-short (b ∷ bs) g rest image gates short =
     absurd (omega (arith, short, ap length gates.bytes, length-append (header VERSION ++ opened (b ∷ bs)) (g ∷ rest), length-append (header VERSION) (opened (b ∷ bs)), length-header VERSION, ap length (flat_map-cons (λ batch. 1 ∷ batch_bytes batch) b bs), length-append (1 ∷ batch_bytes b) (opened bs), length-batch b))

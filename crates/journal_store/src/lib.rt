@@ -7,6 +7,7 @@ mod journal;
 pub mod laws;
 mod limits;
 mod making;
+mod payload;
 
 pub use batch::Batch;
 pub use journal::{DiskFault, Journal};

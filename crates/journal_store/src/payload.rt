@@ -1,0 +1,59 @@
+//! Payloads and batches in bytes that were read.
+
+ghost use Rattle.std.specs.Prelude.{◌≡◌, List, ℕ, ◌++◌, IfSome, IfNone, All};
+ghost use Rattle.journal_store.specs.Format.{IsPayload, payload_bytes, body};
+ghost use Rattle.journal_store.specs.Cut.{HasPayloads, HasBatch, HasNoBatch};
+
+use crate::limits::{MAX_PAYLOAD, MAX_PAYLOADS};
+use byteorder::{BigEndian, ByteOrder};
+
+/// The payload in front of the bytes and what is behind it, where a whole one is there.
+pub fn split_payload(bytes: &[u8]) -> Option<(&[u8], &[u8])>
+    ensures some { IfSome result (λ cut. IsPayload cut.0.now) }
+    ensures bytes { IfSome result (λ cut. bytes.now ≡ payload_bytes cut.0.now ++ cut.1.now) }
+    ensures none { IfNone result ((p us : List ℕ) → IsPayload p → bytes.now ≡ payload_bytes p ++ us → ⊥) }
+{
+    if bytes.len() < 2 {
+        return None;
+    }
+    let size = BigEndian::read_u16(bytes) as usize;
+    if size == 0 || size > MAX_PAYLOAD || bytes.len() - 2 < size {
+        return None;
+    }
+    Some(bytes[2..].split_at(size))
+}
+
+/// How many payloads the bytes are, where they are whole payloads and nothing else.
+fn count_payloads(bytes: &[u8]) -> Option<usize>
+    ensures some { IfSome result (λ count. HasPayloads count bytes.now) }
+    ensures none { IfNone result ((ps : List (List ℕ)) → All IsPayload ps → bytes.now ≡ body ps → ⊥) }
+{
+    let mut rest = bytes;
+    let mut count = 0;
+    while !rest.is_empty() {
+        match split_payload(rest) {
+            Some((_, behind)) => rest = behind,
+            None => return None,
+        }
+        count += 1;
+    }
+    Some(count)
+}
+
+/// How many payloads the batch in front of the bytes has, where a whole one is there with one byte more.
+pub fn count_of_batch(bytes: &[u8]) -> Option<usize>
+    ensures some { IfSome result (λ count. HasBatch count bytes.now) }
+    ensures none { IfNone result (HasNoBatch bytes.now) }
+{
+    if bytes.len() < 4 {
+        return None;
+    }
+    let size = BigEndian::read_u32(bytes) as usize;
+    if bytes.len() - 4 <= size {
+        return None;
+    }
+    match count_payloads(&bytes[4..4 + size]) {
+        Some(count) if 1 <= count && count <= MAX_PAYLOADS => Some(count),
+        _ => None,
+    }
+}
