@@ -1,6 +1,8 @@
--- Payloads and batches in front of bytes.
+-- Payloads, batches and gates in front of bytes.
 use Rattle.std.specs.Prelude.{◌≡◌, ℕ, List, ◌∷◌, ◌++◌, length, All}
 use Rattle.journal_store.specs.Format.{IsPayload, IsBatch, body, batch_bytes}
+use Rattle.journal_store.specs.declared.gate.Gate.{Gate}
+use Rattle.journal_store.specs.declared.gate.Gate.TheVariants.{Closed, Open, Torn}
 
 -- the bytes are so many payloads and nothing else
 pub record HasPayloads (count : ℕ) (bytes : List ℕ) : Type 0 where
@@ -21,3 +23,9 @@ pub record HasBatch (count : ℕ) (bytes : List ℕ) : Type 0 where
 -- no whole batch is in front of the bytes with one byte more
 abbrev pub HasNoBatch : List ℕ → Type 0
 HasNoBatch bytes = (batch : List (List ℕ)) (gate : ℕ) (more : List ℕ) → IsBatch batch → bytes ≡ batch_bytes batch ++ gate ∷ more → ⊥
+
+-- what stands at the gate in front of the bytes
+abbrev pub IsGate : Gate → List ℕ → Type 0
+IsGate Closed bytes = (behind : List ℕ) → bytes ≡ 1 ∷ behind → ⊥
+IsGate (Open count) bytes = (behind : List ℕ) × (bytes ≡ 1 ∷ behind) × HasBatch count behind
+IsGate Torn bytes = (behind : List ℕ) × (bytes ≡ 1 ∷ behind) × HasNoBatch behind

@@ -6,7 +6,10 @@ pub mod FormatLaws
 pub mod Found
 pub mod Journal
 pub mod MakeLaws
+pub mod Opening
+pub mod Reading
 pub mod Sized
 pub mod Stands
 pub mod TornLaws
 pub mod Unique
+pub mod Window

@@ -1,6 +1,6 @@
 -- What making an empty journal leaves at each moment.
 use Rattle.std.proofs.Common.{◌≡◌, ◌⊎◌, ℕ, ◌+◌, ◌-◌, ◌≤◌, List, [], ◌∷◌, ◌++◌, Ok, Err, refl, sym, ◌∙◌, ap, arith, inl, inr, length, drop, length-append, append-nil}
-use Rattle.std.specs.Prelude.{Result, replicate}
+use Rattle.std.specs.Prelude.{Result, OnOk, replicate}
 use Rattle.std.proofs.lemmas.List.{length-replicate}
 use Rattle.std.proofs.lemmas.List.Elements.{All-nil}
 use Rattle.std.proofs.Math.ListN.{drop_of_length-le}
@@ -28,7 +28,7 @@ early_or (inl early) onward = inl early
 early_or (inr torn) onward = inr (onward torn)
 
 -- written whole, nothing else is left
-written : (bytes : List ℕ) → length bytes ≤ 17 → overlaid 0 empty_bytes bytes ≡ empty_bytes
+pub written : (bytes : List ℕ) → length bytes ≤ 17 → overlaid 0 empty_bytes bytes ≡ empty_bytes
 written bytes short =
     let pad : List ℕ = replicate (0 + length empty_bytes - length bytes) 0 in
     let none : drop (0 + length empty_bytes) (grown (0 + length empty_bytes) bytes) ≡ [] =
@@ -59,3 +59,8 @@ makes (Err e) old new fresh goes keeps = record {
   since = λ moment image early since. early_or (keeps.since moment image early since) (λ torn. short-image old image fresh torn);
   stored = tt;
 }
+
+-- the bytes of an empty journal are there where making it succeeded
+pub made-bytes : {T E : Type 0} (result : Result T E) (old new : Drive) → IsFresh old → Keeps (IsTorn 0 (length empty_bytes)) (overlaid 0 empty_bytes old.bytes) result old new → OnOk result (new.bytes ≡ empty_bytes)
+made-bytes (Ok x) old new fresh keeps = keeps.bytes ∙ written old.bytes fresh.short
+made-bytes (Err e) old new fresh keeps = tt

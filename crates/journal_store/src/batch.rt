@@ -112,7 +112,7 @@ fn set_size(bytes: &mut Vec<u8>, size: u32)
 }
 
 /// Puts bytes at the end, where there is room for them.
-fn append(bytes: &mut Vec<u8>, more: &[u8])
+pub(crate) fn append(bytes: &mut Vec<u8>, more: &[u8])
     requires { vec_len bytes.old + length more.now ≤ vec_capacity bytes.old }
     ensures bytes { bytes.new.items ≡ bytes.old.items ++ more.now }
     ensures room { vec_capacity bytes.old ≤ vec_capacity bytes.new }

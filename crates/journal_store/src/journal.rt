@@ -1,13 +1,12 @@
-ghost use Rattle.std.specs.Prelude.{◌≡◌, ◌⊎◌, ℕ, ◌+◌, ◌^◌, ◌<◌, ◌≤◌, List, [], ◌++◌, length, true, false, IsErr, IfOk, OnOk, OnErr};
+ghost use Rattle.std.specs.Prelude.{◌≡◌, ◌⊎◌, ℕ, ◌+◌, ◌*◌, ◌^◌, ◌<◌, ◌≤◌, List, ◌++◌, length, true, false, IsErr, OnOk, OnErr};
 ghost use Rattle.outside_faults.specs.Faults.{Rose};
 ghost use Rattle.journal_disk.specs.Steps.{GoesOn};
 ghost use Rattle.journal_store.specs.Format.{IsBatch, batch_bytes};
-ghost use Rattle.journal_store.specs.Journal.{Kept, IsOf};
-ghost use Rattle.journal_store.specs.Stands.{IsFresh, StandsForEither};
+ghost use Rattle.journal_store.specs.Journal.{IsOf};
+ghost use Rattle.journal_store.specs.Stands.{StandsForEither};
 
 use crate::appending::append_at;
 use crate::batch::Batch;
-use crate::making::make_empty;
 use journal_disk::Disk;
 use std::marker::Model;
 
@@ -38,18 +37,16 @@ impl<D> Model for Journal<D> {
 }
 
 impl<D: Disk> Journal<D> {
-    /// An empty journal on a disk of at most 17 bytes. An `Err` gives the disk back.
-    pub(crate) fn make(mut disk: D) -> Result<Journal<D>, D>
-        ensures ok { IfOk result (λ journal. IsFresh (D.drive disk) → IsOf D.drive [] journal) }
+    /// The journal on a disk whose closed gate is at a place, behind so many payloads.
+    pub(crate) fn at_gate(disk: D, gate: u64, count: u64) -> Journal<D>
+        requires { gate ≤ 16 + 519 * count }
+        ensures { result ≡ record { disk = disk; gate = gate; count = count; broken = false } }
     {
-        match make_empty(&mut disk) {
-            Ok(()) => Ok(Journal {
-                disk,
-                gate: 16,
-                count: 0,
-                is_broken: false,
-            }),
-            Err(_) => Err(disk),
+        Journal {
+            disk,
+            gate,
+            count,
+            is_broken: false,
         }
     }
 

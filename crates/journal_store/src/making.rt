@@ -1,7 +1,8 @@
-ghost use Rattle.std.specs.Prelude.{◌≡◌, ◌∷◌, [], ◌++◌};
+ghost use Rattle.std.specs.Prelude.{◌≡◌, ◌∷◌, [], ◌++◌, OnOk};
 ghost use Rattle.outside_faults.specs.Faults.{HasCause};
 ghost use Rattle.journal_disk.specs.Steps.{GoesOn};
 ghost use Rattle.journal_store.specs.Format.{header};
+ghost use Rattle.journal_store.specs.MakeLaws.{empty_bytes};
 ghost use Rattle.journal_store.specs.Stands.{IsFresh, Makes};
 
 use journal_disk::{Disk, write_and_sync};
@@ -14,6 +15,7 @@ const EMPTY: &[u8; 17] = b"ctx-journal-v001\0";
 pub fn make_empty<D: Disk>(disk: &mut D) -> Result<(), Failed>
     ensures cause { HasCause (D.drive disk.old).faults (D.drive disk.new).faults result }
     ensures goes_on { GoesOn (D.drive disk.old) (D.drive disk.new) }
+    ensures bytes { IsFresh (D.drive disk.old) → OnOk result ((D.drive disk.new).bytes ≡ empty_bytes) }
     ensures makes { IsFresh (D.drive disk.old) → Makes result (D.drive disk.old) (D.drive disk.new) }
 {
     write_and_sync(disk, 0, EMPTY)
