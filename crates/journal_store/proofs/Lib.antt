@@ -4,4 +4,5 @@ pub mod Numbers
 mod Ready
 mod Sizes
 pub mod Standing
+pub mod Telling
 pub mod Windows

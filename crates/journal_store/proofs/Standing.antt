@@ -84,6 +84,18 @@ at-gate-by list image w place batches (p ∷ ps) gate rest none formed bytes lis
 pub at-gate : (list : List (List ℕ)) (image : List ℕ) (w : Unread) (place : ℕ) (ended : Bool) → StandsIn list image w 0 place ended → AtGate list image w
 at-gate list image w place ended s = at-gate-by list image w place s.batches s.ahead s.gate s.rest s.waits s.formed s.bytes s.listed s.window s.here s.placed
 
+-- its gate is the one behind the batches
+at-gate-same : (list : List (List ℕ)) (image : List ℕ) (w : Unread) (place : ℕ) (batches : List (List (List ℕ))) (ahead : List (List ℕ)) (gate : ℕ) (rest : List ℕ)
+    (none : 0 ≡ length ahead) (formed : All IsBatch batches) (bytes : image ≡ front batches ++ gate ∷ rest) (listed : IsUpTo list place batches ahead) (window : IsFrontOf image w) (here : drop w.place image ≡ body ahead ++ gate ∷ rest)
+    (placed : w.place + length (body ahead) ≡ length (front batches)) → (at-gate-by list image w place batches ahead gate rest none formed bytes listed window here placed).gate ≡ gate
+unfolding at-gate-by
+at-gate-same list image w place batches [] gate rest none formed bytes listed window here placed = refl
+at-gate-same list image w place batches (p ∷ ps) gate rest none formed bytes listed window here placed = absurd (omega (arith, none))
+
+pub at-gate-closed : (list : List (List ℕ)) (image : List ℕ) (w : Unread) (place : ℕ) (s : StandsIn list image w 0 place true) → (at-gate list image w place true s).gate ≢ 1
+unfolding at-gate
+at-gate-closed list image w place s = λ one. s.closed refl (sym (at-gate-same list image w place s.batches s.ahead s.gate s.rest s.waits s.formed s.bytes s.listed s.window s.here s.placed) ∙ one)
+
 -- back to where a reader stands
 pub from-gate : (list : List (List ℕ)) (image : List ℕ) (w : Unread) (place : ℕ) (ended : Bool) (g : AtGate list image w) → (ended ≡ true → g.gate ≢ 1) → StandsIn list image w 0 place ended
 from-gate list image w place ended g closed = record {

@@ -139,9 +139,9 @@ impl<D: Disk> Reader<D> {
         ensures goes_on { GoesOn (D.drive self.old.disk) (D.drive self.new.disk) }
         ensures leaves { Honestly (D.drive self.old.disk) (Leaves (D.drive self.old.disk) (D.drive self.new.disk)) }
     {
-        if self.window.need(&mut self.disk, MOST_AT_GATE).is_err() {
+        let Ok(()) = self.window.need(&mut self.disk, MOST_AT_GATE) else {
             return Err(NextFault::Disk);
-        }
+        };
         match gate_of(self.window.as_slice()) {
             Gate::Closed => {
                 self.is_ended = true;
