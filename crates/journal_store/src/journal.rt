@@ -66,6 +66,7 @@ impl<D: Disk> Journal<D> {
         ensures never_falls { (D.drive self.old.disk).faults ≤ (D.drive self.new.disk).faults }
         ensures breaks { OnErr result (self.new.broken ≡ true) }
         ensures broken { self.old.broken ≡ true → IsErr result × (self.new ≡ self.old) }
+        ensures stays_sound { OnOk result (self.new.broken ≡ false) }
         ensures goes_on { GoesOn (D.drive self.old.disk) (D.drive self.new.disk) }
         ensures count { OnOk result (self.new.count ≡ self.old.count + length batch.now) }
     {
