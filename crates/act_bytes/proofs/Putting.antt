@@ -1,8 +1,7 @@
 -- Bytes put at a place of a piece, one behind the other.
-use Rattle.std.proofs.Common.{◌≡◌, ℕ, ◌+◌, ◌*◌, ◌≤◌, ◌<◌, List, [], ◌∷◌, ◌++◌, length, get_or, take, refl, sym, ap, ◌∙◌, append_assoc, append-nil, arith}
+use Rattle.std.proofs.Common.{◌≡◌, ℕ, ◌+◌, ◌*◌, ◌≤◌, ◌<◌, List, [], ◌∷◌, ◌++◌, length, take, refl, sym, ap, ◌∙◌, append_assoc, arith}
 use Rattle.std.specs.List.{flat_map}
-use Rattle.std.proofs.lemmas.Grind.{flat_map-append}
-use Rattle.std.proofs.lemmas.List.{take_at, take-take, take_more, length-append, length-take-le}
+use Rattle.std.proofs.lemmas.List.{take_at, take-take, length-append, length-take-le}
 use Rattle.std.proofs.lemmas.List.Concat.{flat_map-cons}
 use Rattle.std.proofs.lemmas.Slice.{take-put_mid}
 use Rattle.std.proofs.Math.Nat.{mul-le-mul_left}
@@ -33,21 +32,8 @@ puts-then old x now y new at end next one two = record {
   place = omega (arith, one.place, two.place, length-append x y);
 }
 
-pub puts-none : (old : List ℕ) (at : ℕ) → Puts old at [] old at
-puts-none old at = record { front = sym (append-nil (take at old)); place = omega arith }
-
--- an item more
-pub puts-item : {A : Type 0} (f : A → List ℕ) (head : List ℕ) (items : List A) (i : ℕ) (d item : A) (old now new : List ℕ) (at end next : ℕ) → i < length items → item ≡ get_or items i d
-    → Puts old at (head ++ flat_map f (take i items)) now end → Puts now end (f item) new next → Puts old at (head ++ flat_map f (take (i + 1) items)) new next
-puts-item {A = A} f head items i d item old now new at end next less is one two =
-    let more : flat_map f (take (i + 1) items) ≡ flat_map f (take i items) ++ f item =
-    ap (flat_map f) (take_more items i d less) ∙ (flat_map-append f (take i items) (get_or items i d ∷ []) ∙ ap (λ (xs : List ℕ). flat_map f (take i items) ++ xs) (append-nil (f (get_or items i d)) ∙ ap f (sym is))) in
-    let bytes : head ++ flat_map f (take (i + 1) items) ≡ (head ++ flat_map f (take i items)) ++ f item = ap (λ (xs : List ℕ). head ++ xs) more ∙ sym (append_assoc head (flat_map f (take i items)) (f item)) in
-    let both = puts-then old (head ++ flat_map f (take i items)) now (f item) new at end next one two in
-    rw bytes both
-
 -- items of a length
-pub length-items : {A : Type 0} (f : A → List ℕ) (n : ℕ) → ((x : A) → length (f x) ≡ n) → (items : List A) → length (flat_map f items) ≡ n * length items
+length-items : {A : Type 0} (f : A → List ℕ) (n : ℕ) → ((x : A) → length (f x) ≡ n) → (items : List A) → length (flat_map f items) ≡ n * length items
 length-items f n each [] = omega arith
 length-items f n each (x ∷ xs) = omega (arith, ap length (flat_map-cons f x xs), length-append (f x) (flat_map f xs), each x, length-items f n each xs)
 
