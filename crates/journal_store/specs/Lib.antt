@@ -4,6 +4,7 @@ pub mod Cut
 pub mod Format
 pub mod FormatLaws
 pub mod Found
+pub mod FoundLaws
 pub mod Journal
 pub mod MakeLaws
 pub mod Opening

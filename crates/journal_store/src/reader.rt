@@ -195,6 +195,13 @@ impl<D: Disk> Reader<D> {
         self.place
     }
 
+    /// How many payloads were told.
+    pub fn count(&self) -> u64
+        ensures { result ≡ self.now.count }
+    {
+        self.count
+    }
+
     /// The journal, for appending.
     pub fn finish(self) -> Journal<D>
         requires { self.is_ended ≡ true }

@@ -1,0 +1,5 @@
+use Rattle.journal_store.specs.FoundLaws.{one-end}
+use Rattle.journal_store.proofs.laws.one_end.Goals as goal
+
+pub returns : goal.returns
+returns c = one-end
