@@ -1,15 +1,18 @@
 -- What opening a journal leaves, call by call.
-use Rattle.std.proofs.Common.{◌≡◌, ◌⊎◌, ℕ, ◌+◌, ◌<◌, ◌≤◌, true, false, List, [], ◌∷◌, ◌++◌, Ok, Err, refl, sym, ◌∙◌, ap, subst, arith, inl, inr, length, take, drop, append-nil}
+use Rattle.std.proofs.Common.{◌≡◌, ◌⊎◌, ℕ, ◌<◌, ◌≤◌, true, false, List, [], ◌∷◌, ◌++◌, refl, sym, ◌∙◌, ap, subst, arith, inl, inr, length, take, drop, length-take}
 use Rattle.std.specs.Prelude.{Result}
-use Rattle.std.proofs.lemmas.List.{length-drop, take-append-drop, drop_at}
+use Rattle.std.proofs.lemmas.List.{length-drop, take-append-drop, drop_at, take-take}
+use Rattle.std.proofs.Math.Seq.{take-append_seam}
 use Rattle.journal_disk.specs.Drive.{Drive, IsStored}
 use Rattle.journal_disk.specs.Steps.{GoesOn, Leaves}
 use Rattle.journal_store.specs.Format.{header}
 use Rattle.journal_store.specs.FormatLaws.{length-header}
 use Rattle.journal_store.specs.Found.{StandsAs}
 use Rattle.journal_store.specs.MakeLaws.{empty_bytes}
-use Rattle.journal_store.specs.Opening.{Begins, Opened}
-use Rattle.journal_store.specs.Reading.{Unread, IsFrontOf, StandsIn}
+use Rattle.journal_store.specs.Opening.{Begins, IsHead, Opened}
+use Rattle.journal_store.specs.declared.opening.Head.{Head}
+use Rattle.journal_store.specs.declared.opening.Head.TheVariants.{Short, Header, Other}
+use Rattle.journal_store.specs.Reading.{Unread, IsFrontOf}
 use Rattle.journal_store.specs.Stands.{Stands, IsFresh, Makes}
 use Rattle.journal_store.specs.Unique.{one-list}
 use Rattle.journal_store.specs.declared.limits.TheConstants.{VERSION}
@@ -63,3 +66,17 @@ opened-empty old new stored short bytes =
       last = λ (is : true ≡ true). refl;
     } in
     record { stored = stored; opens = inr (short, bytes); stands = stands-first new.bytes [] 0 16 w bytes refl window }
+
+-- the part of a piece that a read filled
+pub read-front : (bytes filled piece : List ℕ) (n len : ℕ) → len ≡ length (take n bytes) → filled ≡ take n bytes ++ drop len piece → take len filled ≡ take n bytes
+read-front bytes filled piece n len long are =
+    ap (take len) are ∙ (ap (λ (k : ℕ). take k (take n bytes ++ drop len piece)) long ∙ take-append_seam (take n bytes) (drop len piece))
+
+first-of-front : (front bytes : List ℕ) → front ≡ take 18 bytes → take 16 bytes ≡ take 16 front
+first-of-front front bytes is = sym (take-take 16 18 bytes (omega arith)) ∙ ap (take 16) (sym is)
+
+-- the first 18 bytes tell what all begin with
+pub head-of-all : (head : Head) (front bytes : List ℕ) → front ≡ take 18 bytes → IsHead head front → IsHead head bytes
+head-of-all Short front bytes is head = omega (arith, head, ap length is, length-take 18 bytes)
+head-of-all Header front bytes is head = (omega (arith, head.0, ap length is, length-take 18 bytes), first-of-front front bytes is ∙ head.1)
+head-of-all Other front bytes is head = (omega (arith, head.0, ap length is, length-take 18 bytes), λ same. head.1 (sym (first-of-front front bytes is) ∙ same))

@@ -1,17 +1,17 @@
 -- Payloads and batches cut off the front of bytes.
-use Rattle.std.proofs.Common.{◌≡◌, ℕ, ◌+◌, ◌-◌, ◌^◌, ◌<◌, ◌≤◌, List, [], ◌∷◌, ◌++◌, refl, sym, ◌∙◌, ap, subst, arith, length, take, drop, get_or, length-append, length-take, append_assoc, append-nil}
+use Rattle.std.proofs.Common.{◌≡◌, ℕ, ◌+◌, ◌^◌, ◌<◌, ◌≤◌, List, [], ◌∷◌, ◌++◌, refl, sym, ◌∙◌, ap, arith, length, take, drop, get_or, length-append, length-take, append_assoc, append-nil}
 use Rattle.std.specs.Prelude.{All}
-use Rattle.std.proofs.lemmas.List.{length-drop, take-append-drop, drop-append-le, take-append-le}
+use Rattle.std.proofs.lemmas.List.{length-drop, take-append-drop, take-append-le}
 use Rattle.std.proofs.lemmas.List.Concat.{flat_map-cons}
 use Rattle.std.proofs.lemmas.List.Elements.{All-head, All-tail, All-append, All-cons, All-nil}
 use Rattle.std.proofs.lemmas.Grind.{flat_map-append}
-use Rattle.std.proofs.Math.Seq.{take-append_seam, drop-append_seam, drop-append-add}
+use Rattle.std.proofs.Math.Seq.{take-append_seam, drop-append_seam}
 use Rattle.byteorder.specs.Endian.{big_bytes, big_number}
 use Rattle.byteorder.specs.Numbers.{big_number-reads_back, length-bytes_high_first}
-use Rattle.journal_store.specs.Cut.{HasPayloads, HasBatch, HasNoBatch}
+use Rattle.journal_store.specs.Cut.{HasPayloads, HasBatch}
 use Rattle.journal_store.specs.Format.{IsPayload, IsBatch, payload_bytes, body, batch_bytes}
-use Rattle.journal_store.specs.Sized.{length-payload, length-batch, body-within}
-use Rattle.journal_store.specs.Unique.{same-payload, same-body, some-bytes, short-body}
+use Rattle.journal_store.specs.Sized.{length-payload}
+use Rattle.journal_store.specs.Unique.{same-payload, same-body, short-body}
 use Rattle.journal_store.proofs.Numbers.{spelt-two, spelt-four}
 
 -- the front of equal bytes, where one part is at least as long as the other
@@ -24,11 +24,21 @@ pub some-first : (xs : List ℕ) → 1 ≤ length xs → (x : ℕ) × (rest : Li
 some-first [] long = absurd (omega arith)
 some-first (x ∷ xs) long = (x, xs, refl)
 
+-- the number that bytes begin with
+read-number : (width n : ℕ) (bytes rest : List ℕ) → n < 256 ^ width → bytes ≡ big_bytes width n ++ rest → big_number width bytes ≡ n
+read-number width n bytes rest small are = ap (big_number width) are ∙ big_number-reads_back width n rest small
+
+-- bytes with their number in front
+sized : (width m n : ℕ) (bytes behind inner rest : List ℕ) → bytes ≡ big_bytes width m ++ behind → n ≡ m → n ≡ length inner → behind ≡ inner ++ rest → bytes ≡ (big_bytes width (length inner) ++ inner) ++ rest
+sized width m n bytes behind inner rest are number long split =
+    let size = sym number ∙ long in
+    are ∙ ((λ i. big_bytes width (size i) ++ split i) ∙ sym (append_assoc (big_bytes width (length inner)) inner rest))
+
 -- what a payload in front tells
 pub payload-number : (bytes p us : List ℕ) → IsPayload p → bytes ≡ payload_bytes p ++ us → big_number 2 bytes ≡ length p
 unfolding payload_bytes
 payload-number bytes p us is are =
-    ap (big_number 2) (are ∙ append_assoc (big_bytes 2 (length p)) p us) ∙ big_number-reads_back 2 (length p) (p ++ us) (omega (arith, is.at_most))
+    read-number 2 (length p) bytes (p ++ us) (omega (arith, is.at_most)) (are ∙ append_assoc (big_bytes 2 (length p)) p us)
 
 pub payload-room : (bytes p us : List ℕ) → bytes ≡ payload_bytes p ++ us → length bytes ≡ 2 + length p + length us
 payload-room bytes p us are = omega (arith, ap length are, length-append (payload_bytes p) us, length-payload p)
@@ -40,8 +50,7 @@ unfolding payload_bytes
 cut-payload bytes p behind n small number room is rest =
     let long : n ≡ length p = omega (arith, ap length is, length-take n (drop 2 bytes), length-drop 2 bytes, room) in
     let split : drop 2 bytes ≡ p ++ behind = sym (take-append-drop n (drop 2 bytes)) ∙ (λ i. sym is i ++ sym rest i) in
-    let size : big_number 2 bytes ≡ length p = sym number ∙ long in
-    spelt-two bytes small (omega (arith, room)) ∙ ((λ i. big_bytes 2 (size i) ++ split i) ∙ sym (append_assoc (big_bytes 2 (length p)) p behind))
+    sized 2 (big_number 2 bytes) n bytes (drop 2 bytes) p behind (spelt-two bytes small (omega (arith, room))) number long split
 
 -- Payloads in front of bytes that are payloads are the first of them.
 pub record Forced (ps qs : List (List ℕ)) (rest : List ℕ) : Type 0 where
@@ -108,7 +117,7 @@ batched ps gate more bytes is are =
     let size : List ℕ = big_bytes 4 (length (body ps)) in
     let four : length size ≡ 4 = length-bytes_high_first 4 (length (body ps)) in
     let whole : bytes ≡ size ++ (body ps ++ gate ∷ more) = are ∙ append_assoc size (body ps) (gate ∷ more) in
-    let number : big_number 4 bytes ≡ length (body ps) = ap (big_number 4) whole ∙ big_number-reads_back 4 (length (body ps)) (body ps ++ gate ∷ more) (short-body ps is) in
+    let number : big_number 4 bytes ≡ length (body ps) = read-number 4 (length (body ps)) bytes (body ps ++ gate ∷ more) (short-body ps is) whole in
     let behind : drop 4 bytes ≡ body ps ++ gate ∷ more = ap (drop 4) whole ∙ (ap (λ (k : ℕ). drop k (size ++ (body ps ++ gate ∷ more))) (sym four) ∙ drop-append_seam size (body ps ++ gate ∷ more)) in
     record {
       number = number;
@@ -117,26 +126,21 @@ batched ps gate more bytes is are =
     }
 
 -- a batch that is cut by its number
-pub cut-batch : (bytes : List ℕ) (count : ℕ) → ((i : ℕ) → get_or bytes i 0 < 256) → 4 + big_number 4 bytes < length bytes → HasPayloads count (take (big_number 4 bytes) (drop 4 bytes)) → 1 ≤ count → count ≤ 64
-    → HasBatch count bytes
+pub cut-batch : (bytes : List ℕ) (count n : ℕ) → ((i : ℕ) → get_or bytes i 0 < 256) → n ≡ big_number 4 bytes → 4 + n < length bytes → HasPayloads count (take n (drop 4 bytes)) → 1 ≤ count → count ≤ 64 → HasBatch count bytes
 unfolding batch_bytes
-cut-batch bytes count small room has some few =
-    let n : ℕ = big_number 4 bytes in
+cut-batch bytes count n small number room has some few =
     let ps = has.payloads in
-    let rest = some-first (drop n (drop 4 bytes)) (omega (arith, length-drop n (drop 4 bytes), length-drop 4 bytes, room)) in
-    let long : length (body ps) ≡ n = omega (arith, ap length has.are, length-take n (drop 4 bytes), length-drop 4 bytes, room) in
-    let spelt : bytes ≡ big_bytes 4 n ++ drop 4 bytes = spelt-four bytes small (omega (arith, room)) in
-    let size : n ≡ length (body ps) = sym long in
-    let split : drop 4 bytes ≡ body ps ++ rest.0 ∷ rest.1 = sym (take-append-drop n (drop 4 bytes)) ∙ (λ i. has.are i ++ rest.2 i) in
-    let whole : big_bytes 4 n ++ drop 4 bytes ≡ big_bytes 4 (length (body ps)) ++ (body ps ++ rest.0 ∷ rest.1) = λ i. big_bytes 4 (size i) ++ split i in
-    let are : bytes ≡ batch_bytes ps ++ rest.0 ∷ rest.1 = spelt ∙ (whole ∙ sym (append_assoc (big_bytes 4 (length (body ps))) (body ps) (rest.0 ∷ rest.1))) in
+    let behind : List ℕ = drop 4 bytes in
+    let rest = some-first (drop n behind) (omega (arith, length-drop n behind, length-drop 4 bytes, room)) in
+    let long : n ≡ length (body ps) = omega (arith, ap length has.are, length-take n behind, length-drop 4 bytes, room) in
+    let split : behind ≡ body ps ++ rest.0 ∷ rest.1 = sym (take-append-drop n behind) ∙ (λ i. has.are i ++ rest.2 i) in
     record {
       batch = ps;
       gate = rest.0;
       rest = rest.1;
       is = record { at_least = omega (arith, has.long, some); at_most = omega (arith, has.long, few); payloads = has.fine };
       long = has.long;
-      are = are;
+      are = sized 4 (big_number 4 bytes) n bytes behind (body ps) (rest.0 ∷ rest.1) (spelt-four bytes small (omega (arith, room))) number long split;
     }
 
 pub batch-counted : (count : ℕ) (bytes inner : List ℕ) → HasPayloads count inner → inner ≡ take (big_number 4 bytes) (drop 4 bytes) → (ps : List (List ℕ)) (gate : ℕ) (more : List ℕ) → IsBatch ps → bytes ≡ batch_bytes ps ++ gate ∷ more

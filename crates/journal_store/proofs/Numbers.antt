@@ -1,5 +1,5 @@
 -- Numbers of two and of four bytes, and the bytes that spell them.
-use Rattle.std.proofs.Common.{◌≡◌, ℕ, ◌+◌, ◌*◌, ◌/◌, ◌%◌, ◌<◌, ◌≤◌, List, [], ◌∷◌, ◌++◌, refl, sym, ap, arith, length, take, drop, get_or}
+use Rattle.std.proofs.Common.{◌≡◌, ℕ, ◌+◌, ◌*◌, ◌/◌, ◌%◌, ◌<◌, ◌≤◌, List, [], ◌∷◌, ◌++◌, sym, ap, arith, length, drop, get_or}
 use Rattle.byteorder.specs.Endian.{big_bytes, big_number}
 
 two : (a b n : ℕ) → a < 256 → b < 256 → n ≡ a * 256 + b → (n / 256 % 256) ∷ (n % 256) ∷ [] ≡ a ∷ b ∷ []

@@ -1,14 +1,13 @@
 -- Where a reader stands in the bytes, and what each of its steps makes of that.
-use Rattle.std.proofs.Common.{◌≡◌, ◌⊎◌, ℕ, ◌+◌, ◌-◌, ◌<◌, ◌≤◌, Bool, true, false, List, [], ◌∷◌, ◌++◌, refl, sym, ◌∙◌, ap, subst, arith, inl, inr, length, take, drop, length-append, append_assoc, append-nil}
+use Rattle.std.proofs.Common.{◌≡◌, ℕ, ◌+◌, ◌-◌, ◌≤◌, Bool, true, false, List, [], ◌∷◌, ◌++◌, refl, sym, ◌∙◌, ap, subst, arith, length, drop, length-append, append_assoc, append-nil}
 use Rattle.std.specs.Prelude.{◌≢◌, All}
-use Rattle.std.proofs.lemmas.Bool.{cases_Bool}
-use Rattle.std.proofs.lemmas.List.{length-drop, drop-drop, drop-append-le, drop_at, append_cancel_left}
+use Rattle.std.proofs.lemmas.List.{length-drop, drop-drop, drop-append-le, drop_at}
 use Rattle.std.proofs.lemmas.List.Concat.{flat_map-cons}
 use Rattle.std.proofs.lemmas.List.Elements.{All-head, All-tail, All-append, All-cons, All-nil, All-take, All-drop}
 use Rattle.std.proofs.Math.Seq.{take-append_seam, drop-append_seam}
 use Rattle.byteorder.specs.Endian.{big_bytes}
 use Rattle.byteorder.specs.Numbers.{length-bytes_high_first}
-use Rattle.journal_store.specs.Cut.{HasBatch, HasNoBatch, IsGate}
+use Rattle.journal_store.specs.Cut.{HasNoBatch, IsGate}
 use Rattle.journal_store.specs.declared.gate.Gate.TheVariants.{Closed, Open, Torn}
 use Rattle.journal_store.specs.Format.{header, IsPayload, IsBatch, payload_bytes, body, batch_bytes, opened, payloads}
 use Rattle.journal_store.specs.FormatLaws.{length-header, opened-more, payloads-more}
@@ -83,18 +82,6 @@ at-gate-by list image w place batches (p ∷ ps) gate rest none formed bytes lis
 
 pub at-gate : (list : List (List ℕ)) (image : List ℕ) (w : Unread) (place : ℕ) (ended : Bool) → StandsIn list image w 0 place ended → AtGate list image w
 at-gate list image w place ended s = at-gate-by list image w place s.batches s.ahead s.gate s.rest s.waits s.formed s.bytes s.listed s.window s.here s.placed
-
--- its gate is the one behind the batches
-at-gate-same : (list : List (List ℕ)) (image : List ℕ) (w : Unread) (place : ℕ) (batches : List (List (List ℕ))) (ahead : List (List ℕ)) (gate : ℕ) (rest : List ℕ)
-    (none : 0 ≡ length ahead) (formed : All IsBatch batches) (bytes : image ≡ front batches ++ gate ∷ rest) (listed : IsUpTo list place batches ahead) (window : IsFrontOf image w) (here : drop w.place image ≡ body ahead ++ gate ∷ rest)
-    (placed : w.place + length (body ahead) ≡ length (front batches)) → (at-gate-by list image w place batches ahead gate rest none formed bytes listed window here placed).gate ≡ gate
-unfolding at-gate-by
-at-gate-same list image w place batches [] gate rest none formed bytes listed window here placed = refl
-at-gate-same list image w place batches (p ∷ ps) gate rest none formed bytes listed window here placed = absurd (omega (arith, none))
-
-pub at-gate-closed : (list : List (List ℕ)) (image : List ℕ) (w : Unread) (place : ℕ) (s : StandsIn list image w 0 place true) → (at-gate list image w place true s).gate ≢ 1
-unfolding at-gate
-at-gate-closed list image w place s = λ one. s.closed refl (sym (at-gate-same list image w place s.batches s.ahead s.gate s.rest s.waits s.formed s.bytes s.listed s.window s.here s.placed) ∙ one)
 
 -- back to where a reader stands
 pub from-gate : (list : List (List ℕ)) (image : List ℕ) (w : Unread) (place : ℕ) (ended : Bool) (g : AtGate list image w) → (ended ≡ true → g.gate ≢ 1) → StandsIn list image w 0 place ended

@@ -1,15 +1,13 @@
 -- What a reader has told, after each step.
-use Rattle.std.proofs.Common.{◌≡◌, ℕ, ◌+◌, ◌-◌, ◌≤◌, Bool, true, false, List, [], ◌∷◌, ◌++◌, refl, sym, ◌∙◌, ap, subst, arith, length, drop, length-append}
-use Rattle.std.specs.Prelude.{◌≢◌}
+use Rattle.std.proofs.Common.{◌≡◌, ℕ, ◌+◌, ◌-◌, ◌≤◌, true, false, List, [], ◌∷◌, ◌++◌, sym, ◌∙◌, subst, arith, length, drop, length-append}
 use Rattle.journal_disk.specs.Drive.{Drive}
 use Rattle.journal_disk.specs.Steps.{GoesOn, Leaves}
 use Rattle.journal_store.specs.Cut.{IsGate}
 use Rattle.journal_store.specs.declared.gate.Gate.TheVariants.{Closed, Open, Torn}
 use Rattle.journal_store.specs.Format.{IsPayload, payload_bytes}
 use Rattle.journal_store.specs.Found.{Follows, Ends, Breaks}
-use Rattle.journal_store.specs.Journal.{Kept, IsOf}
 use Rattle.journal_store.specs.Reading.{Unread, Reading, IsFrontOf, StandsIn, HasTold}
-use Rattle.journal_store.proofs.Standing.{AtGate, at-gate, at-gate-closed, from-gate, refilled, gate-closed, gate-torn, gate-open, ends, payload-told, payload-there}
+use Rattle.journal_store.proofs.Standing.{AtGate, at-gate, from-gate, refilled, gate-closed, gate-torn, gate-open, ends, payload-told, payload-there}
 
 -- none waits and the end was not told
 pub record IsAtGate {D : Type 0} (reader : Reading D) : Type 0 where
@@ -45,8 +43,7 @@ pub enters-closed : {D : Type 0} (drive : D → Drive) (list : List (List ℕ)) 
 enters-closed drive list r told at enough is =
     let g = gate-of drive list r told at.none in
     let closed = gate-closed list (drive r.disk).bytes r.unread g enough is in
-    let s = from-gate list (drive r.disk).bytes r.unread r.place true g (λ (same : true ≡ true). closed) in
-    (
+    let s = from-gate list (drive r.disk).bytes r.unread r.place true g (λ (same : true ≡ true). closed) in (
       ends list (drive r.disk).bytes r.unread g closed,
       record {
         honest = told.honest;
@@ -67,44 +64,14 @@ enters-open drive list r count place now told at is here same =
       stored = told.stored;
       counted = told.counted;
       stands = subst (λ (u : Unread). StandsIn list (drive r.disk).bytes u count place r.is_ended) (sym same) (
-      subst (StandsIn list (drive r.disk).bytes w count place) (sym at.goes) (subst (λ (n : ℕ). StandsIn list (drive r.disk).bytes w count n false) (sym here) s)
-      );
+          subst (StandsIn list (drive r.disk).bytes w count place) (sym at.goes) (subst (λ (n : ℕ). StandsIn list (drive r.disk).bytes w count n false) (sym here) s)
+          );
     }
 
 pub enters-torn : {D : Type 0} (drive : D → Drive) (list : List (List ℕ)) (r : Reading D) (place : ℕ) → HasTold drive list r → IsAtGate r → (r.unread.is_last ≡ false → 32902 ≤ length r.unread.bytes) → IsGate Torn r.unread.bytes → place ≡ r.unread.place
     → Breaks list place (drive r.disk).bytes
 enters-torn drive list r place told at enough is here =
     subst (λ (n : ℕ). Breaks list n (drive r.disk).bytes) (sym here) (gate-torn list (drive r.disk).bytes r.unread (gate-of drive list r told at.none) enough is)
-
--- a reader that told the end stands at a closed gate
-gate-behind : {D : Type 0} (drive : D → Drive) (list : List (List ℕ)) (r : Reading D) → HasTold drive list r → r.waiting ≡ 0 → r.is_ended ≡ true → StandsIn list (drive r.disk).bytes r.unread 0 r.place true
-gate-behind drive list r told none ended = subst (StandsIn list (drive r.disk).bytes r.unread 0 r.place) ended (stands-at drive list r told none)
-
-pub ended-before : {D : Type 0} (drive : D → Drive) (list : List (List ℕ)) (r : Reading D) → HasTold drive list r → r.waiting ≡ 0 → r.is_ended ≡ true → Ends list (drive r.disk).bytes
-ended-before drive list r told none ended =
-    let s = gate-behind drive list r told none ended in
-    ends list (drive r.disk).bytes r.unread (at-gate list (drive r.disk).bytes r.unread r.place true s) (at-gate-closed list (drive r.disk).bytes r.unread r.place s)
-
--- the journal behind the end
-pub finishes : {D : Type 0} (drive : D → Drive) (list : List (List ℕ)) (r : Reading D) → HasTold drive list r → r.waiting ≡ 0 → r.is_ended ≡ true
-    → IsOf drive list (record { disk = r.disk; gate = r.unread.place; count = r.count; broken = false })
-finishes drive list r told none ended =
-    let s = gate-behind drive list r told none ended in
-    let g = at-gate list (drive r.disk).bytes r.unread r.place true s in
-    record {
-      stored = record {
-        batches = g.batches;
-        gate = g.gate;
-        rest = g.rest;
-        honest = told.honest;
-        stored = told.stored;
-        gates = record { formed = g.formed; closed = at-gate-closed list (drive r.disk).bytes r.unread r.place s; bytes = g.bytes };
-        listed = g.listed;
-        placed = g.placed;
-      };
-      count = told.counted;
-      sound = refl;
-    }
 
 -- a payload was cut off
 pub tells-payload : {D : Type 0} (drive : D → Drive) (list : List (List ℕ)) (r : Reading D) (now : Unread) (p behind told_last : List ℕ) → HasTold drive list r → 1 ≤ r.waiting → IsPayload p → r.unread.bytes ≡ payload_bytes p ++ behind

@@ -1,11 +1,11 @@
 -- The unread part of a buffer.
-use Rattle.std.proofs.Common.{◌≡◌, ℕ, ◌+◌, ◌-◌, ◌<◌, ◌≤◌, Bool, true, List, [], ◌∷◌, ◌++◌, refl, sym, ◌∙◌, ap, arith, length, take, drop, length-take, length-drop}
+use Rattle.std.proofs.Common.{◌≡◌, ℕ, ◌+◌, ◌-◌, ◌<◌, ◌≤◌, Bool, true, List, ◌++◌, sym, ◌∙◌, ap, arith, length, take, drop, length-take}
 use Rattle.std.specs.Prelude.{nat_lt}
 use Rattle.std.proofs.lemmas.Bool.Decides.{nat_tests}
 use Rattle.std.proofs.lemmas.List.{drop-take, drop-drop, take-append-drop}
 use Rattle.std.proofs.Math.ListN.{drop_of_length-le}
 use Rattle.std.proofs.Math.Seq.{take-append_seam}
-use Rattle.journal_store.specs.Reading.{Unread, IsFrontOf}
+use Rattle.journal_store.specs.Reading.{IsFrontOf}
 use Rattle.journal_store.specs.declared.window.TheConstants.{WINDOW_BYTES}
 
 pub skipped : (buffer : List ℕ) (start end count : ℕ) → start + count ≤ end

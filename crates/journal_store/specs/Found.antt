@@ -1,5 +1,5 @@
 -- What stands in the bytes of a journal behind the payloads of a list: a payload more, the end, or a place where it breaks off.
-use Rattle.std.specs.Prelude.{◌≡◌, ◌≢◌, ℕ, ◌<◌, ◌≤◌, List, ◌∷◌, [], ◌++◌, length, take, All}
+use Rattle.std.specs.Prelude.{◌≡◌, ◌≢◌, ℕ, ◌<◌, List, ◌∷◌, [], ◌++◌, length, take, All}
 use Rattle.journal_store.specs.Format.{header, IsBatch, batch_bytes, opened, payloads}
 use Rattle.journal_store.specs.Stands.{HasGates, Stands}
 use Rattle.journal_store.specs.declared.limits.TheConstants.{VERSION}

@@ -1,5 +1,5 @@
 -- What a reader finds tells the list that an image stands for.
-use Rattle.std.proofs.Common.{◌≡◌, ◌⊎◌, ℕ, ◌+◌, ◌<◌, ◌≤◌, List, [], ◌∷◌, ◌++◌, refl, sym, ◌∙◌, ap, subst, arith, inl, inr, length, take, drop, length-append, append_assoc, append-nil}
+use Rattle.std.proofs.Common.{◌≡◌, ℕ, ◌+◌, ◌≤◌, List, [], ◌∷◌, ◌++◌, refl, sym, ◌∙◌, ap, subst, arith, inl, inr, length, take, length-append, append_assoc, append-nil}
 use Rattle.std.specs.Prelude.{◌≢◌, All}
 use Rattle.std.proofs.lemmas.Grind.{flat_map-append}
 use Rattle.std.proofs.lemmas.List.{append_cancel_left}
@@ -9,7 +9,7 @@ use Rattle.std.proofs.Math.Seq.{take-append_seam}
 use Rattle.journal_store.specs.Format.{header, IsBatch, batch_bytes, opened, payloads}
 use Rattle.journal_store.specs.FormatLaws.{length-header, payloads-more}
 use Rattle.journal_store.specs.Found.{Follows, Ends, Breaks, IsForeign}
-use Rattle.journal_store.specs.MakeLaws.{empty_bytes, length-empty}
+use Rattle.journal_store.specs.MakeLaws.{empty_bytes}
 use Rattle.journal_store.specs.Opening.{Opens}
 use Rattle.journal_store.specs.Sized.{length-batch}
 use Rattle.journal_store.specs.Stands.{HasGates, Stands}

@@ -7,9 +7,7 @@ pub enum Gate {
     /// A closed gate, or no byte.
     Closed,
     /// An open gate with a whole batch of so many payloads behind it and one byte more.
-    Open {
-        payloads: usize,
-    },
+    Open { payloads: usize },
     /// An open gate, and no whole batch with one byte more.
     Torn,
 }

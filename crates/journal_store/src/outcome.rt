@@ -38,7 +38,5 @@ pub enum NextFault {
     Disk,
     /// Behind the open gate at this place, in bytes from the start of the disk, no whole batch stands with one byte more.
     #[error("the journal breaks off at byte {at}")]
-    Cut {
-        at: u64,
-    },
+    Cut { at: u64 },
 }

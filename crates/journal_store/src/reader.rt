@@ -44,13 +44,13 @@ impl<D> Model for Reader<D> {
     ghost Value = { Reading D };
 
     ghost view = { λ r. record {
-        disk = r.disk;
-        unread = r.window;
-        waiting = r.waiting;
-        place = r.place;
-        payload = r.payload.items;
-        count = r.count;
-        is_ended = r.is_ended;
+      disk = r.disk;
+      unread = r.window;
+      waiting = r.waiting;
+      place = r.place;
+      payload = r.payload.items;
+      count = r.count;
+      is_ended = r.is_ended;
     } };
 
     ghost invariant = { λ r. IsSound r.window.place r.waiting r.count r.is_ended r.payload };
@@ -76,10 +76,16 @@ impl<D: Disk> Reader<D> {
             → (D.drive (disk_after result)).image_since moment image → (D.drive disk).image_since moment image ⊎ StandsAs (D.drive disk).bytes image) }
     {
         let Ok(mut window) = Window::new(alloc, 16) else {
-            return Err(BeginFailed { why: BeginFault::Memory, disk });
+            return Err(BeginFailed {
+                why: BeginFault::Memory,
+                disk,
+            });
         };
         let Ok(payload) = Vec::with_capacity(alloc, MAX_PAYLOAD) else {
-            return Err(BeginFailed { why: BeginFault::Memory, disk });
+            return Err(BeginFailed {
+                why: BeginFault::Memory,
+                disk,
+            });
         };
         match open(&mut disk, &mut window) {
             Ok(()) => Ok(Reader {
@@ -153,7 +159,9 @@ impl<D: Disk> Reader<D> {
                 self.window.skip(5);
                 Ok(true)
             }
-            Gate::Torn => Err(NextFault::Cut { at: self.window.place() }),
+            Gate::Torn => Err(NextFault::Cut {
+                at: self.window.place(),
+            }),
         }
     }
 

@@ -102,14 +102,25 @@ fn why(alloc: Global, first: &[u8], failing: &[u64]) -> Result<Option<BeginFault
 #[test]
 fn what_is_not_opened(rt: HostRuntime) -> Result<(), Fail> {
     for call in 1..5 {
-        assert_eq!(rt; why(rt.alloc(), b"", &[call])?, Some(BeginFault::Disk), "call {call}");
+        assert_eq!(rt;
+            why(rt.alloc(), b"", &[call])?,
+            Some(BeginFault::Disk),
+            "call {call}"
+        );
     }
     for call in 1..3 {
-        assert_eq!(rt; why(rt.alloc(), TWO, &[call])?, Some(BeginFault::Disk), "call {call}");
+        assert_eq!(rt;
+            why(rt.alloc(), TWO, &[call])?,
+            Some(BeginFault::Disk),
+            "call {call}"
+        );
     }
     let other = b"ctx-journal-v002\0\0";
     assert_eq!(rt; why(rt.alloc(), other, &[])?, Some(BeginFault::NotJournal));
-    assert_eq!(rt; why(rt.alloc(), &[0; 18], &[])?, Some(BeginFault::NotJournal));
+    assert_eq!(rt;
+        why(rt.alloc(), &[0; 18], &[])?,
+        Some(BeginFault::NotJournal)
+    );
     Ok(())
 }
 
@@ -174,7 +185,10 @@ fn batches_one_after_another(rt: HostRuntime) -> Result<(), Fail> {
     let mut batch = two(&rt)?;
     assert_eq!(rt; append(&mut journal, &batch), Some(Ok(())));
     assert_eq!(rt; journal.count(), 2);
-    let mut journal = open(rt.alloc(), disk(rt.alloc(), journal.give_up().as_slice(), &[])?)?;
+    let mut journal = open(
+        rt.alloc(),
+        disk(rt.alloc(), journal.give_up().as_slice(), &[])?,
+    )?;
     assert_eq!(rt; journal.count(), 2);
     batch.clear();
     assert_eq!(rt; batch.len(), 0);

@@ -1,4 +1,4 @@
-use Rattle.std.proofs.Common.{◌≡◌, ◌≤◌, ◌∙◌, List, ℕ, [], ◌∷◌, false, true, sym, ap, subst, arith, length}
+use Rattle.std.proofs.Common.{◌≡◌, ◌∙◌, [], ◌∷◌, true, sym, ap, subst}
 use Rattle.journal_store.specs.Opening.{IsHead, Opened}
 use Rattle.journal_store.specs.Reading.{Unread}
 use Rattle.journal_store.proofs.Beginning.{begins-made, fresh, opened-journal, opened-empty}

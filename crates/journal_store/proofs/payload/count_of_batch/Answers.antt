@@ -1,6 +1,5 @@
-use Rattle.std.proofs.Common.{◌≡◌, ℕ, ◌+◌, ◌-◌, arith, ap, subst, sym, take, drop, List, refl, ◌∙◌}
+use Rattle.std.proofs.Common.{◌≡◌, ℕ, ◌+◌, ◌-◌, arith, ap, take, drop, ◌∙◌}
 use Rattle.byteorder.specs.Endian.{big_number}
-use Rattle.journal_store.specs.Cut.{HasPayloads}
 use Rattle.journal_store.proofs.Cutting.{batched, cut-batch, batch-counted}
 use Rattle.journal_store.proofs.payload.count_of_batch.Goals as goal
 
@@ -12,9 +11,8 @@ returns-then-bytes-size-clause-none c = λ batch gate more is are. let room = (b
 
 pub returns-in-Some-clause-some : goal.returns-in-Some-clause-some
 returns-in-Some-clause-some c =
-    let size : 4 + c.read_u32-size.result - 4 ≡ big_number 4 c.args.bytes.now = omega (arith, c.read_u32-size.ensures) in
-    cut-batch c.args.bytes.now c.in-Some.count (λ i. omega (arith, c.type_inv.bytes i)) (omega (arith, size, c.if-bytes-size.false, c.if-bytes-lt4.false))
-    (subst (λ (n : ℕ). HasPayloads c.in-Some.count (take n (drop 4 c.args.bytes.now))) size c.in-Some.ensures.some) c.if-count-ge1.true c.if-count-le-MAX_PAYLOADS.true
+    cut-batch c.args.bytes.now c.in-Some.count (4 + c.read_u32-size.result - 4) (λ i. omega (arith, c.type_inv.bytes i)) (omega (arith, c.read_u32-size.ensures)) (omega (arith, c.if-bytes-size.false, c.if-bytes-lt4.false))
+    c.in-Some.ensures.some c.if-count-ge1.true c.if-count-le-MAX_PAYLOADS.true
 
 pub returns-in_default-clause-none : goal.returns-in_default-clause-none
 returns-in_default-clause-none c = λ batch gate more is are.

@@ -1,8 +1,8 @@
-use Rattle.std.proofs.Common.{◌≡◌, ◌≤◌, ◌∙◌, ℕ, List, ◌∷◌, sym, ap, subst, arith, length, length-append}
+use Rattle.std.proofs.Common.{◌∷◌, sym, ap, subst, arith, length, length-append}
 use Rattle.journal_store.specs.Format.{batch_bytes}
 use Rattle.journal_store.specs.Cut.{IsGate}
 use Rattle.journal_store.specs.declared.gate.Gate.TheVariants.{Closed, Open, Torn}
-use Rattle.journal_store.specs.Reading.{Reading, HasTold}
+use Rattle.journal_store.specs.Reading.{HasTold}
 use Rattle.journal_store.specs.Sized.{length-batch}
 use Rattle.journal_store.proofs.Telling.{IsAtGate, told-again, front-of, enters-closed, enters-open, enters-torn}
 use Rattle.journal_store.proofs.reader.Reader.enter.Goals as goal

@@ -1,6 +1,5 @@
-use Rattle.std.proofs.Common.{◌≡◌, ◌≤◌, ◌∙◌, ℕ, List, ◌++◌, ◌∷◌, sym, ap, subst, arith, length}
+use Rattle.std.proofs.Common.{◌≡◌, ◌≤◌, ◌∙◌, ℕ, List, ◌++◌, sym, ap, subst, arith, length}
 use Rattle.journal_store.specs.Format.{IsPayload, payload_bytes}
-use Rattle.journal_store.specs.Found.{Follows, Breaks}
 use Rattle.journal_store.specs.Reading.{Reading, HasTold}
 use Rattle.journal_store.proofs.Cutting.{payload-room}
 use Rattle.journal_store.proofs.Telling.{tells-payload, tells-none}

@@ -1,4 +1,4 @@
-use Rattle.std.proofs.Common.{arith, ap, length, refl, ◌∙◌}
+use Rattle.std.proofs.Common.{ap, length, refl, ◌∙◌}
 use Rattle.std.proofs.lemmas.List.{with_items_is}
 use Rattle.journal_store.proofs.Windows.{filled}
 use Rattle.journal_store.proofs.window.Window.fill.Goals as goal
