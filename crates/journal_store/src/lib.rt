@@ -1,4 +1,8 @@
 //! The journal: a list of payloads on a disk, of which a crash can tear no part that was answered.
+//!
+//! A [`Reader`] opens a disk and tells the payloads one by one, up to the end or to the place where the journal breaks
+//! off; after the end it gives the [`Journal`], to which batches are appended. The [`laws`] say that what it tells is
+//! exactly what the bytes stand for.
 #![tactic(auto)]
 
 mod appending;
