@@ -1,5 +1,4 @@
-use Rattle.std.proofs.Common.{List, subst}
-use Rattle.command_words.specs.declared.act.Act.{Act}
+use Rattle.std.proofs.Common.{subst}
 use Rattle.settle_core.specs.State.{State}
 use Rattle.settle_core.specs.Legal.{IsLegal}
 use Rattle.settle_core.proofs.Histories.{legal-askable}

@@ -1,11 +1,10 @@
-use Rattle.std.proofs.Common.{◌≡◌, ℕ, ◌<◌, List, length, take, get_or, Some, None, refl, sym, ◌∙◌, ap, subst, arith, length-take}
+use Rattle.std.proofs.Common.{◌≡◌, ℕ, ◌<◌, List, length, take, get_or, Some, refl, sym, ◌∙◌, ap, subst, arith, length-take}
 use Rattle.std.proofs.lemmas.Option.{slice_get-get_or}
 use Rattle.command_words.specs.declared.act.Act.{Act}
 use Rattle.settle_core.specs.Bounds.{Bounds}
 use Rattle.settle_core.specs.Legal.{IsLegal}
-use Rattle.settle_core.specs.Replay.{IsRefused, IsStopped, IsFirstRefused, IsNoHistory}
+use Rattle.settle_core.specs.Replay.{IsStopped, IsFirstRefused, IsNoHistory}
 use Rattle.settle_core.specs.State.{State, IsSame}
-use Rattle.settle_core.specs.Verdict.{question_of, verdict}
 use Rattle.settle_core.specs.declared.replay.ReplayFault.{ReplayFault}
 use Rattle.settle_core.specs.declared.replay.ReplayFault.TheVariants.{Illegal, Memory}
 use Rattle.settle_core.proofs.exchange.Exchange.replay.Goals as goal
