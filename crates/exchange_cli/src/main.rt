@@ -1,4 +1,5 @@
-//! The program: the words after its name, standard input, standard output and the machine's clock, given to `run`.
+//! The program: the words after its name, standard input, standard output, a file for the journal and the machine's clock,
+//! given to `run`.
 #![tactic(auto)]
 
 mod clock;
@@ -8,6 +9,7 @@ mod output;
 
 use clock::MachineClock;
 use exchange_top::run;
+use file_disk::FileDisk;
 use input::Input;
 use line_link::Status;
 use output::Output;
@@ -15,6 +17,9 @@ use std::alloc::Global;
 use std::env::Env;
 use std::process::ExitCode;
 use std::{env, io};
+
+/// The file of the journal, in the present folder.
+const JOURNAL: &str = "exchange.journal";
 
 /// The words after the program's name.
 fn words(rt: &(impl Env + AllocGlobal)) -> io::Result<Vec<String>> {
@@ -38,8 +43,9 @@ fn main(rt: HostRuntime) -> ExitCode {
         Ok(words) => {
             let mut source = Input::new(rt.stdin());
             let mut sink = Output::new(rt.stdout());
+            let disk = FileDisk::new(&rt, JOURNAL);
             let mut clock = MachineClock::new(&rt);
-            run(rt.alloc(), &words, &mut source, &mut sink, &mut clock).status
+            run(rt.alloc(), &words, &mut source, &mut sink, disk, &mut clock).status
         }
         Err(error) => without_words(&error),
     };

@@ -1,4 +1,9 @@
+mod Damages
+mod Endings
 mod JsonLists
 mod Members
+mod Recoveries
 mod Requests
-mod Serving
+mod Runs
+mod Stores
+mod Turns

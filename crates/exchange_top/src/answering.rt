@@ -6,6 +6,7 @@ ghost use Rattle.line_link.specs.Lines.{kept};
 ghost use Rattle.command_words.specs.Command.{in_ranges, is_built};
 ghost use Rattle.settle_core.specs.Reply.{Answered};
 ghost use Rattle.settle_core.specs.State.{asked};
+ghost use Rattle.exchange_top.specs.Holds.{IsStep};
 ghost use Rattle.exchange_top.specs.Talk.{AnsweredLine, refused_reply};
 
 use crate::wire_json::{Request, read_line};
@@ -23,6 +24,7 @@ pub(crate) fn answer_line(
     now: u64,
 ) -> Reply
     ensures answered { AnsweredLine exchange.old.limits exchange.old.history (heard line text.now) now result exchange.new.history }
+    ensures step { IsStep exchange.old.history exchange.new.history }
     ensures limits { exchange.new.limits ≡ exchange.old.limits }
 {
     match line {

@@ -1,16 +1,23 @@
-//! The exchange as a program over its outside: bytes of a source in, bytes of a sink out.
+//! The exchange as a program over its outside: bytes of a source in, bytes of a sink out, and a disk that keeps its acts.
 //!
 //! [`run`] is the program. Its contract says, for every input, what is read, what each line is answered, what is
-//! written, and why the run ended. [`read_line`] and [`write_reply`] are its wire format.
+//! stored and written, what a crash at any moment leaves, and why the run ended. [`recover`] reads a journal back.
+//! [`read_line`] and [`write_reply`] are the wire format.
 #![tactic(auto)]
 
 mod answering;
 mod ended;
+pub mod laws;
 mod program;
+mod recovery;
+mod serving;
+mod storing;
 mod wire_json;
 
 pub use ended::Ended;
-pub use program::{MAX_INPUT, run};
+pub use program::run;
+pub use recovery::{OpenFailed, OpenFault, recover};
+pub use serving::{MAX_INPUT, Opened};
 pub use wire_json::{Request, TEXT_BYTES, Text, read_line, write_reply};
 
 #[cfg(test)]

@@ -1,61 +1,73 @@
-ghost use Rattle.std.specs.Prelude.{◌≡◌, ◌≢◌, ◌+◌, ◌<◌, ◌≤◌, ◌↔◌, [], length, true, false, IfOk};
+ghost use Rattle.std.specs.Prelude.{◌≡◌, ◌≢◌, ◌⊎◌, ℕ, ◌+◌, ◌<◌, ◌≤◌, ◌↔◌, List, [], length, Bool, true, false, IfOk};
+ghost use Rattle.command_words.specs.declared.act.Act.{Act};
+ghost use Rattle.journal_disk.specs.Drive.{Honestly};
 ghost use Rattle.outside_faults.specs.Faults.{Rose};
 ghost use Rattle.outside_faults.specs.Told.{IfTold};
 ghost use Rattle.settle_core.specs.Bounds.{standard};
-ghost use Rattle.exchange_top.specs.Run.{Ran};
+ghost use Rattle.settle_core.specs.Legal.{IsLegal};
+ghost use Rattle.exchange_top.specs.Holds.{Holds};
+ghost use Rattle.exchange_top.specs.Recovery.{Stops, status_of};
+ghost use Rattle.exchange_top.specs.Run.{Ran, Stopped, Says, IsDamaged, IsServed};
 ghost use Rattle.exchange_top.specs.Words.{is_run};
-ghost use Rattle.exchange_top.specs.declared.program.TheConstants.{MAX_INPUT};
+ghost use Rattle.exchange_top.specs.declared.serving.TheConstants.{MAX_INPUT};
 
-use crate::answering::answer_line;
 use crate::ended::Ended;
-use crate::wire_json::{Text, write_reply};
+use crate::recovery::{OpenFailed, recover};
+use crate::serving::{Desk, serve};
+use crate::wire_json::{Text, write_end};
 use command_words::Clock;
 use condition_sets::NoMemory;
-use line_link::{LineReader, ReadEnd, Sink, Source, Status, WriteFault, write_all};
-use settle_core::{Exchange, Limits};
+use journal_disk::Disk;
+use line_link::{Sink, Source, Status, WriteFault, write_all};
+use settle_core::Limits;
 use std::alloc::Global;
 
-/// How many bytes a run takes from its source at the most.
-pub const MAX_INPUT: u64 = 1 << 40;
-
-/// What a run takes its memory for before the first line.
-#[derive(Drop)]
-struct Desk {
-    reader: LineReader,
-    text: Text,
-    exchange: Exchange,
-}
-
-/// Runs the program: with the one word `run`, reads lines from the source to its end and writes the reply to each
-/// to the sink, over an exchange that begins with the empty history.
+/// Runs the program: with the one word `run`, recovers the exchange that the disk's journal holds, then reads lines from
+/// the source to its end and writes the reply to each to the sink. What a line adds to the history is stored before
+/// its reply is written.
 ///
 /// The words that a status stands for are those of [`Status`]. It always returns.
-pub fn run<R: Source, W: Sink, C: Clock>(
+pub fn run<R: Source, W: Sink, D: Disk, C: Clock>(
     alloc: Global,
     words: &[String],
     source: &mut R,
     sink: &mut W,
+    disk: D,
     clock: &mut C,
-) -> Ended
-    // What was read, what it was answered and what was written.
-    ensures ran { Ran result (R.left source.old) (R.left source.new) (W.held sink.old) (W.held sink.new)
+) -> Ended<D>
+    // What was read, what it was answered, what was stored and what was written; or that the journal wasn't opened.
+    ensures ran { Ran D.drive disk result (R.left source.old) (R.left source.new) (W.held sink.old) (W.held sink.new)
+        (C.may_have_told clock.old) (C.may_have_told clock.new)
+        ⊎ Stopped D.drive disk result (R.left source.old) (R.left source.new) (W.held sink.old) (W.held sink.new)
         (C.may_have_told clock.old) (C.may_have_told clock.new) }
 
     // Why it ended so.
     ensures words { (result.status ≡ Status.Words) ↔ (is_run words.now ≡ false) }
+    ensures untouched { result.status ≡ Status.Words → result.disk ≡ disk }
     ensures read_fault { result.status ≡ Status.ReadFault → Rose (R.read_faults source.old) (R.read_faults source.new) }
     ensures write_fault { result.status ≡ Status.WriteFault → Rose (W.write_faults sink.old) (W.write_faults sink.new) }
+    ensures disk_fault { result.status ≡ Status.DiskFault → Rose (D.drive disk).faults (D.drive result.disk).faults }
+    ensures damage { Honestly (D.drive disk) (IsDamaged result.status (D.drive disk).bytes) }
     ensures input_limit { result.status ≡ Status.InputLimit → IfTold (R.left source.old) (R.left source.new)
         (λ input left. length input ≡ MAX_INPUT + length left) }
     ensures below_limit { result.status ≡ Status.ReadFault → IfTold (R.left source.old) (R.left source.new)
         (λ input left. length input < MAX_INPUT + length left) }
+
+    // Over a journal of legal acts, and an outside that doesn't fail, nothing else than these ends it.
+    ensures complete { (history : List Act) → Honestly (D.drive disk) (Holds (D.drive disk).bytes history → IsLegal standard history → is_run words.now ≡ true
+        → (Rose (R.read_faults source.old) (R.read_faults source.new) → ⊥) → (Rose (W.write_faults sink.old) (W.write_faults sink.new) → ⊥)
+        → (Rose (D.drive disk).faults (D.drive result.disk).faults → ⊥) → IsServed result.status) }
 {
     if !is_run(words) {
-        return ended(Status::Words);
+        return unopened(Status::Words, disk);
     }
-    match Desk::new(alloc) {
-        Ok(desk) => serve(alloc, desk, source, sink, clock),
-        Err(NoMemory) => ended(Status::Memory),
+    let desk = match Desk::new(alloc) {
+        Ok(desk) => desk,
+        Err(NoMemory) => return unopened(Status::Memory, disk),
+    };
+    match recover(alloc, Limits::standard(), disk) {
+        Ok(opened) => serve(alloc, desk, opened, source, sink, clock),
+        Err(failed) => stop(failed, desk.text, sink),
     }
 }
 
@@ -69,80 +81,30 @@ fn is_run(words: &[String]) -> bool
     }
 }
 
-/// The end of a run that answered no line.
-fn ended(status: Status) -> Ended
-    ensures { result ≡ record { status = status; lines = 0; acts = 0 } }
+/// The end of a run that opened no journal.
+fn unopened<D>(status: Status, disk: D) -> Ended<D>
+    ensures { result ≡ record { status = status; lines = 0; acts = 0; disk = disk } }
 {
     Ended {
         status,
         lines: 0,
         acts: 0,
+        disk,
     }
 }
 
-impl Desk {
-    /// Takes the memory that a run needs before its first line.
-    fn new(alloc: Global) -> Result<Desk, NoMemory>
-        ensures reader { IfOk result (λ desk. desk.reader ≡ record { pending = []; taken = 0; limit = MAX_INPUT; text = [] }) }
-        ensures limits { IfOk result (λ desk. desk.exchange.limits ≡ standard) }
-        ensures history { IfOk result (λ desk. desk.exchange.history ≡ []) }
-    {
-        Ok(Desk {
-            reader: LineReader::new(alloc, MAX_INPUT)?,
-            text: Text::new(alloc)?,
-            exchange: Exchange::new(alloc, Limits::standard())?,
-        })
-    }
-
-    /// The end of a run that wrote so many replies whole.
-    fn end(&self, status: Status, lines: u64) -> Ended
-        ensures { result ≡ record { status = status; lines = lines; acts = length self.now.exchange.history } }
-    {
-        Ended {
-            status,
-            lines,
-            acts: self.exchange.history().len() as u64,
-        }
-    }
-}
-
-/// Answers each line until the source ends or an object of the outside fails.
-fn serve<R: Source, W: Sink, C: Clock>(
-    alloc: Global,
-    mut desk: Desk,
-    source: &mut R,
-    sink: &mut W,
-    clock: &mut C,
-) -> Ended
-    requires reader { desk.reader ≡ record { pending = []; taken = 0; limit = MAX_INPUT; text = [] } }
-    requires limits { desk.exchange.limits ≡ standard }
-    requires history { desk.exchange.history ≡ [] }
-
-    ensures ran { Ran result (R.left source.old) (R.left source.new) (W.held sink.old) (W.held sink.new)
-        (C.may_have_told clock.old) (C.may_have_told clock.new) }
-
-    ensures not_words { result.status ≢ Status.Words }
-    ensures read_fault { result.status ≡ Status.ReadFault → Rose (R.read_faults source.old) (R.read_faults source.new) }
-    ensures write_fault { result.status ≡ Status.WriteFault → Rose (W.write_faults sink.old) (W.write_faults sink.new) }
-    ensures input_limit { result.status ≡ Status.InputLimit → IfTold (R.left source.old) (R.left source.new)
-        (λ input left. length input ≡ MAX_INPUT + length left) }
-    ensures below_limit { result.status ≡ Status.ReadFault → IfTold (R.left source.old) (R.left source.new)
-        (λ input left. length input < MAX_INPUT + length left) }
+/// Ends a run whose journal could not be opened, with the line that tells why.
+fn stop<W: Sink, D>(failed: OpenFailed<D>, mut text: Text, sink: &mut W) -> Ended<D>
+    ensures says { (honest : Bool) (bytes : List ℕ) → (honest ≡ true → Stops standard bytes failed.why)
+        → Says result.status honest bytes (W.held sink.old) (W.held sink.new) }
+    ensures disk { result.disk ≡ failed.disk }
+    ensures lines { (result.lines ≡ 0) × (result.acts ≡ 0) }
+    ensures status { (result.status ≡ status_of failed.why) ⊎ ((result.status ≡ Status.WriteFault) × Rose (W.write_faults sink.old) (W.write_faults sink.new)) }
 {
-    let mut lines = 0u64;
-    'lines: loop {
-        let line = match desk.reader.next(source) {
-            Ok(line) => line,
-            Err(ReadEnd::End) => return desk.end(Status::Done, lines),
-            Err(ReadEnd::ReadFault) => return desk.end(Status::ReadFault, lines),
-            Err(ReadEnd::InputLimit) => return desk.end(Status::InputLimit, lines),
-        };
-        let now = clock.now();
-        let reply = answer_line(alloc, &mut desk.exchange, line, desk.reader.text(), now);
-        write_reply(&reply, &mut desk.text);
-        match write_all(sink, desk.text.as_slice()) {
-            Ok(()) => lines += 1,
-            Err(WriteFault) => return desk.end(Status::WriteFault, lines),
-        }
+    let status = failed.why.status();
+    write_end(&status, &mut text);
+    match write_all(sink, text.as_slice()) {
+        Ok(()) => unopened(status, failed.disk),
+        Err(WriteFault) => unopened(Status::WriteFault, failed.disk),
     }
 }

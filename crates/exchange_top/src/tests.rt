@@ -2,11 +2,13 @@
 
 ghost use Rattle.std.specs.Prelude.{◌<◌};
 
-use crate::{Ended, run};
+use crate::{Ended, recover, run};
 use command_words::ListClock;
+use journal_disk::MemoryDisk;
 use line_link::{MemorySink, MemorySource, Status};
 use outside_faults::FailingCalls;
-use std::alloc::{AllocError, Global};
+use settle_core::Limits;
+use std::alloc::Global;
 use std::process::Abort;
 use std::test::Fail;
 
@@ -18,6 +20,24 @@ const FIRST_TRADE: &[u8] =
 
 const FIRST_REPLIES: &[u8] =
     b"{\"lsn\":0}\n{\"condition\":0,\"lsn\":1}\n{\"lsn\":2}\n{\"amount\":40,\"rests\":3}\n{\"amount\":60,\"rests\":3}\n{\"rests\":3,\"vault\":100}\n";
+
+/// The journal of the first trade, whose acts came at the moments 7, 8 and 9: the header, three gates each with its
+/// batch, and the closed gate at byte 111.
+const JOURNAL: &[u8; 112] = b"ctx-journal-v001\
+\x01\0\0\0\x17\0\x15\0\0\0\0\0\0\0\x07\0\0\x01\0\x02\0\0\0\0\0\0\0\x64\
+\x01\0\0\0\x18\0\x16\0\0\0\0\0\0\0\x08\0\x02\x04\0\x03\0\0\0\0\0\0\0\x07\x02\
+\x01\0\0\0\x21\0\x1f\0\0\0\0\0\0\0\x09\0\x02\x06\0\0\0\x02\0\0\0\x01\0\0\0\x02\0\0\0\0\0\0\0\x3c\
+\0";
+
+/// The three readings with which the first trade ends.
+const READINGS: &[u8] =
+    b"{\"do\":\"balance\",\"by\":2,\"of\":2,\"key\":[]}\n{\"do\":\"balance\",\"by\":2,\"of\":2,\"key\":[[0,1]]}\n{\"do\":\"vault\",\"by\":2}\n";
+
+const READ_REPLIES: &[u8] =
+    b"{\"amount\":40,\"rests\":3}\n{\"amount\":60,\"rests\":3}\n{\"rests\":3,\"vault\":100}\n";
+
+/// A journal without acts.
+const NO_ACTS: &[u8] = b"ctx-journal-v001\0";
 
 const VAULT: &[u8] = b"{\"do\":\"vault\",\"by\":2}\n";
 
@@ -34,13 +54,20 @@ struct Outside<'a> {
     ghost writes_some: { 0 < write },
 }
 
-/// Runs the program on an input, and gives how it ended and what it wrote.
-fn ran(
+/// A disk in memory that has these bytes stored, and whose calls of these numbers fail.
+fn disk(alloc: Global, first: &[u8], failing: &[u64]) -> Result<MemoryDisk, Fail> {
+    let failing = FailingCalls::new(Vec::from_slice(alloc, failing)?);
+    Ok(MemoryDisk::new(alloc, Vec::from_slice(alloc, first)?, failing)?)
+}
+
+/// Runs the program on an input over a disk, and gives how it ended and what it wrote.
+fn ran_on(
     alloc: Global,
     word: &str,
     input: &[u8],
     outside: &Outside<'_>,
-) -> Result<(Ended, MemorySink), AllocError> {
+    disk: MemoryDisk,
+) -> Result<(Ended<MemoryDisk>, MemorySink), Fail> {
     let mut words = Vec::new(alloc);
     words.push(String::from_str(alloc, word)?)?;
     let bytes = Vec::from_slice(alloc, input)?;
@@ -49,8 +76,18 @@ fn ran(
     let mut source = MemorySource::new(bytes, outside.read, FailingCalls::new(failing_reads));
     let mut sink = MemorySink::new(alloc, outside.write, FailingCalls::new(failing_writes));
     let mut clock = ListClock::new(7);
-    let ended = run(alloc, &words, &mut source, &mut sink, &mut clock);
+    let ended = run(alloc, &words, &mut source, &mut sink, disk, &mut clock);
     Ok((ended, sink))
+}
+
+/// Runs the program on an input over an empty disk.
+fn ran(
+    alloc: Global,
+    word: &str,
+    input: &[u8],
+    outside: &Outside<'_>,
+) -> Result<(Ended<MemoryDisk>, MemorySink), Fail> {
+    ran_on(alloc, word, input, outside, disk(alloc, b"", &[])?)
 }
 
 /// Large pieces, and no fault.
@@ -232,5 +269,157 @@ fn faults(rt: HostRuntime) -> Result<(), Fail> {
     let (ended, sink) = ran(alloc, "walk", &input, &calm())?;
     assert_eq!(rt; ended.status, Status::Words);
     assert!(rt; sink.as_slice().is_empty());
+    Ok(())
+}
+
+#[test]
+fn finds_its_history_again(rt: HostRuntime) -> Result<(), Fail> {
+    let alloc = rt.alloc();
+    let (ended, sink) = ran(alloc, "run", FIRST_TRADE, &calm())?;
+    assert_eq!(rt;
+        (ended.status, ended.lines, ended.acts),
+        (Status::Done, 6, 3)
+    );
+    assert_eq!(rt; sink.as_slice(), FIRST_REPLIES);
+    assert_eq!(rt; ended.disk.as_slice(), JOURNAL.as_slice());
+    let again = disk(alloc, ended.disk.as_slice(), &[])?;
+    let (ended, sink) = ran_on(alloc, "run", READINGS, &calm(), again)?;
+    assert_eq!(rt;
+        (ended.status, ended.lines, ended.acts),
+        (Status::Done, 3, 3)
+    );
+    assert_eq!(rt; sink.as_slice(), READ_REPLIES);
+    assert_eq!(rt; ended.disk.as_slice(), JOURNAL.as_slice());
+    Ok(())
+}
+
+#[test]
+fn makes_an_empty_journal(rt: HostRuntime) -> Result<(), Fail> {
+    let alloc = rt.alloc();
+    for first in [b"".as_slice(), b"ctx", &[255; 17]] {
+        let (ended, sink) = ran_on(alloc, "run", b"", &calm(), disk(alloc, first, &[])?)?;
+        assert_eq!(rt;
+            (ended.status, ended.lines, ended.acts),
+            (Status::Done, 0, 0)
+        );
+        assert!(rt; sink.as_slice().is_empty());
+        assert_eq!(rt; ended.disk.as_slice(), NO_ACTS);
+    }
+    Ok(())
+}
+
+/// The journal of the first trade with another byte at a place, or cut to a length.
+fn damaged(alloc: Global, place: usize, byte: u8, len: usize) -> Result<MemoryDisk, Fail> {
+    let mut bytes = Vec::from_slice(alloc, JOURNAL)?;
+    if let Some(there) = bytes.get_mut(place) {
+        *there = byte;
+    }
+    bytes.truncate(len);
+    disk(alloc, &bytes, &[])
+}
+
+#[test]
+fn tells_of_damage(rt: HostRuntime) -> Result<(), Fail> {
+    let alloc = rt.alloc();
+    let cut = Status::Cut { at: 73, lsn: 2 };
+    let not_act = Status::NotAct { at: 73, lsn: 2 };
+    let illegal = Status::Illegal {
+        at: 73,
+        lsn: 2,
+        code: 28,
+    };
+    let table: [(usize, u8, usize, Status, u64, &[u8]); 5] = [
+        (73, 0x37, 112, Status::Done, 2, b""),
+        (
+            0,
+            0,
+            112,
+            Status::NotJournal,
+            0,
+            b"{\"error\":\"NotJournal\"}\n",
+        ),
+        (
+            99,
+            0,
+            100,
+            cut,
+            0,
+            b"{\"at\":73,\"error\":\"Cut\",\"lsn\":2}\n",
+        ),
+        (
+            110,
+            101,
+            112,
+            illegal,
+            0,
+            b"{\"at\":73,\"code\":28,\"error\":\"Illegal\",\"lsn\":2}\n",
+        ),
+        (
+            90,
+            2,
+            112,
+            not_act,
+            0,
+            b"{\"at\":73,\"error\":\"NotAct\",\"lsn\":2}\n",
+        ),
+    ];
+    for (place, byte, len, status, acts, line) in table {
+        let before = damaged(alloc, place, byte, len)?;
+        let kept = Vec::from_slice(alloc, before.as_slice())?;
+        let (ended, sink) = ran_on(alloc, "run", b"", &calm(), before)?;
+        assert_eq!(rt; (ended.status, ended.lines, ended.acts), (status, 0, acts));
+        assert_eq!(rt; sink.as_slice(), line);
+        assert_eq!(rt; ended.disk.as_slice(), kept.as_slice());
+    }
+    let outside = Outside {
+        read: 4_096,
+        failing_reads: &[],
+        write: 8,
+        failing_writes: &[2],
+    };
+    let (ended, sink) = ran_on(alloc, "run", VAULT, &outside, damaged(alloc, 0, 0, 112)?)?;
+    assert_eq!(rt;
+        (ended.status, ended.lines, ended.acts),
+        (Status::WriteFault, 0, 0)
+    );
+    assert_eq!(rt; sink.as_slice(), b"{\"error\"".as_slice());
+    Ok(())
+}
+
+/// How many acts a journal of these bytes gives.
+fn acts_in(alloc: Global, bytes: &[u8]) -> Result<u64, Fail> {
+    match recover(alloc, Limits::standard(), disk(alloc, bytes, &[])?) {
+        Ok(opened) => Ok(opened.journal.count()),
+        Err(_) => Err("not recovered".into()),
+    }
+}
+
+#[test]
+fn each_device_call_fails(rt: HostRuntime) -> Result<(), Fail> {
+    let alloc = rt.alloc();
+    let mut input = Vec::new(alloc);
+    for _ in 0..10 {
+        input.extend_from_slice(b"{\"do\":\"deposit\",\"by\":0,\"to\":2,\"amount\":1}\n")?;
+    }
+    let (ended, _sink) = ran(alloc, "run", &input, &calm())?;
+    assert_eq!(rt;
+        (ended.status, ended.lines, ended.acts),
+        (Status::Done, 10, 10)
+    );
+    assert_eq!(rt; ended.disk.calls().len(), 44);
+    for call in 1..45u64 {
+        let written = call.saturating_sub(5) / 4;
+        let failing = disk(alloc, b"", &[call])?;
+        let (ended, sink) = ran_on(alloc, "run", &input, &calm(), failing)?;
+        assert_eq!(rt; (ended.status, ended.lines), (Status::DiskFault, written));
+        assert_eq!(rt; sink.as_slice().len() as u64, written * 10);
+        for image in ended.disk.images()? {
+            let acts = acts_in(alloc, image.as_slice())?;
+            assert!(rt;
+                acts >= written && acts <= written + 1,
+                "{acts} acts at call {call}"
+            );
+        }
+    }
     Ok(())
 }

@@ -8,4 +8,5 @@ mod writing;
 pub use reading::read_line;
 pub use request::Request;
 pub use text::{TEXT_BYTES, Text};
+pub(crate) use writing::write_end;
 pub use writing::write_reply;

@@ -11,6 +11,17 @@ pub enum Status {
     ReadFault,
     /// The sink failed.
     WriteFault,
+    /// The disk of the journal failed.
+    DiskFault,
+    /// The disk has more than 17 bytes, which don't begin with a journal's header.
+    NotJournal,
+    /// The journal breaks off: the open gate at byte `at` has no whole batch behind it. `lsn` acts stand before it.
+    Cut { at: u64, lsn: u64 },
+    /// What stands behind `lsn` acts in the batch of the gate at byte `at` spells no act.
+    NotAct { at: u64, lsn: u64 },
+    /// Act `lsn`, in the batch of the gate at byte `at`, is refused over those before it, with the refusal of
+    /// number `code`.
+    Illegal { at: u64, lsn: u64, code: u8 },
     /// As many bytes were taken as a run takes at the most, and no line and no end were told.
     InputLimit,
     /// Memory was wanting before anything was read.
@@ -29,6 +40,11 @@ impl Status {
             Status::Words => 2,
             Status::ReadFault => 3,
             Status::WriteFault => 4,
+            Status::DiskFault => 5,
+            Status::NotJournal => 6,
+            Status::Cut { .. } => 7,
+            Status::NotAct { .. } => 7,
+            Status::Illegal { .. } => 7,
             Status::InputLimit => 8,
             Status::Memory => 9,
         }

@@ -133,6 +133,18 @@ fn each_status_has_its_number(rt: HostRuntime) {
         (Status::Words, 2),
         (Status::ReadFault, 3),
         (Status::WriteFault, 4),
+        (Status::DiskFault, 5),
+        (Status::NotJournal, 6),
+        (Status::Cut { at: 16, lsn: 0 }, 7),
+        (Status::NotAct { at: 16, lsn: 0 }, 7),
+        (
+            Status::Illegal {
+                at: 16,
+                lsn: 0,
+                code: 28,
+            },
+            7,
+        ),
         (Status::InputLimit, 8),
         (Status::Memory, 9),
     ];

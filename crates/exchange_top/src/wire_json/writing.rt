@@ -1,9 +1,12 @@
 ghost use Rattle.std.specs.Prelude.{◌≡◌, ◌+◌, ◌≤◌, [], ◌++◌, length};
+ghost use Rattle.exchange_top.specs.EndText.{end_text, place_text};
 ghost use Rattle.exchange_top.specs.ReplyText.{text_of, refusal_text, plain_text, limit_text, fault_text};
+ghost use Rattle.line_link.specs.declared.status.Status.TheVariants.{Illegal};
 ghost use Rattle.command_words.specs.declared.refusal.Refusal.TheVariants.{Unfunded, VaultLimit, SupplyLimit};
 
 use crate::wire_json::text::Text;
 use command_words::{LineFault, Refusal, Reply};
+use line_link::Status;
 
 /// Makes the text of a reply: one JSON object without spaces, with its members in ascending order, and a newline.
 /// It takes no memory.
@@ -41,6 +44,57 @@ pub fn write_reply(reply: &Reply, into: &mut Text)
         Reply::Refused { refusal, rests } => write_refusal(*refusal, *rests, into),
         Reply::Bad { fault } => write_fault(*fault, into),
     }
+}
+
+/// Makes the line that a run says as it ends, where its journal gives no history; at another status it is empty.
+pub(crate) fn write_end(status: &Status, into: &mut Text)
+    ensures { into.new ≡ end_text status.now }
+{
+    into.clear();
+    match status {
+        Status::NotJournal => into.push(b"{\"error\":\"NotJournal\"}\n"),
+        Status::Cut { at, lsn } => write_place(*at, b",\"error\":\"Cut\",\"lsn\":", *lsn, into),
+        Status::NotAct { at, lsn } => write_place(
+            *at,
+            b",\"error\":\"NotAct\",\"lsn\":",
+            *lsn,
+            into,
+        ),
+        Status::Illegal { at, lsn, code } => write_illegal(*at, *lsn, *code, into),
+        Status::Done => {}
+        Status::Words => {}
+        Status::ReadFault => {}
+        Status::WriteFault => {}
+        Status::DiskFault => {}
+        Status::InputLimit => {}
+        Status::Memory => {}
+    }
+}
+
+fn write_illegal(at: u64, lsn: u64, code: u8, into: &mut Text)
+    requires { into.old ≡ [] }
+    ensures { into.new ≡ end_text (Illegal at lsn code) }
+{
+    into.push(b"{\"at\":");
+    into.push_number(at);
+    into.push(b",\"code\":");
+    into.push_number(u64::from(code));
+    into.push(b",\"error\":\"Illegal\",\"lsn\":");
+    into.push_number(lsn);
+    into.push(b"}\n");
+}
+
+/// The text of a fault at a place of the journal, behind so many acts.
+fn write_place(at: u64, middle: &[u8], lsn: u64, into: &mut Text)
+    requires empty { into.old ≡ [] }
+    requires short { length middle.now ≤ 100 }
+    ensures { into.new ≡ place_text at middle.now lsn }
+{
+    into.push(b"{\"at\":");
+    into.push_number(at);
+    into.push(middle);
+    into.push_number(lsn);
+    into.push(b"}\n");
 }
 
 fn write_refusal(refusal: Refusal, rests: u64, into: &mut Text)

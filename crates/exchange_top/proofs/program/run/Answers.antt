@@ -1,23 +1,38 @@
-use Rattle.std.proofs.Common.{[], refl, sym, subst}
+use Rattle.std.proofs.Common.{◌≡◌, true, refl, sym, subst, inl, inr, arith}
+use Rattle.outside_faults.specs.Faults.{Rose}
 use Rattle.outside_faults.specs.Told.{IfTold-same}
-use Rattle.line_link.specs.declared.status.Status.TheVariants.{Words, Memory}
-use Rattle.exchange_top.specs.declared.ended.Ended.{Ended}
-use Rattle.exchange_top.specs.Run.{Ran, IsRead}
-use Rattle.exchange_top.proofs.Serving.{ran-nothing}
+use Rattle.settle_core.specs.Bounds.{Bounds}
+use Rattle.settle_core.specs.Legal.{IsLegal}
+use Rattle.exchange_top.specs.Recovery.{Stops}
+use Rattle.exchange_top.proofs.Endings.{ran-served, stands-since, stopped-served}
 use Rattle.exchange_top.proofs.program.run.Goals as goal
 
-pub returns-then-not-is_run-clause-ran : goal.returns-then-not-is_run-clause-ran
-returns-then-not-is_run-clause-ran g c =
-    let left = g.R.Source.left c.args.source.now in
-    let held = g.W.Sink.held c.args.sink.now in
-    let told = g.C.Clock.may_have_told c.args.clock.now in
-    subst (λ (e : Ended). Ran e left left held held told told) (sym c.ended.ensures)
-    (ran-nothing Words left held told (IfTold-same left (IsRead Words []) (λ input. refl)) refl refl)
+pub returns-in-Ok-recover-clause-ran : goal.returns-in-Ok-recover-clause-ran
+returns-in-Ok-recover-clause-ran g c =
+    let drive = g.D.Disk.drive in
+    let recovered = c.in-Ok-recover.ensures in
+    inl (ran-served drive g.D.Disk.is_drive c.args.disk c.in-Ok-recover.opened.journal.disk c.in-Ok-recover.opened.exchange.history c.serve.result _ _ _ _ _ _
+    c.serve.ensures.served recovered.goes_on (λ honest. let r = recovered.ok honest in (r.list, r.stands, r.spelled)) recovered.since)
 
-pub returns-in-Err-clause-ran : goal.returns-in-Err-clause-ran
-returns-in-Err-clause-ran g c =
-    let left = g.R.Source.left c.args.source.now in
-    let held = g.W.Sink.held c.args.sink.now in
-    let told = g.C.Clock.may_have_told c.args.clock.now in
-    subst (λ (e : Ended). Ran e left left held held told told) (sym c.ended-in-Err.ensures)
-    (ran-nothing Memory left held told (IfTold-same left (IsRead Memory []) (λ input. refl)) refl refl)
+pub returns-in-Err-recover-clause-ran : goal.returns-in-Err-recover-clause-ran
+returns-in-Err-recover-clause-ran g c =
+    let drive = g.D.Disk.drive in
+    let disk = c.args.disk in
+    let failed = c.in-Err-recover.ensures in
+    inr (record {
+      says = c.stop.ensures.says (drive disk).honest (drive disk).bytes (subst (λ (limits : Bounds). (drive disk).honest ≡ true → Stops limits (drive disk).bytes c.in-Err-recover.failed.why) c.standard.ensures failed.stops);
+      lines = c.stop.ensures.lines.0;
+      acts = c.stop.ensures.lines.1;
+      read = IfTold-same (g.R.Source.left c.args.source.now) _ (λ input. refl);
+      moments = λ before was. was;
+      since = λ honest stored image now.
+          stands-since drive g.D.Disk.is_drive disk image stored
+          (failed.since honest stored (drive disk).moment image (omega arith) (subst (λ (d : g.row.D.Denot). (drive d).image_since (drive disk).moment image) c.stop.ensures.disk now));
+    })
+
+pub returns-in-Err-recover-clause-complete : goal.returns-in-Err-recover-clause-complete
+returns-in-Err-recover-clause-complete g c =
+    λ history honest holds legal words read write disk.
+    let failed = c.in-Err-recover.ensures in
+    stopped-served c.stop.result.status c.in-Err-recover.failed.why c.stop.ensures.status write (failed.excused history honest holds (subst (λ (limits : Bounds). IsLegal limits history) (sym c.standard.ensures) legal))
+    (λ same. disk (subst (λ (d : g.row.D.Denot). Rose (g.D.Disk.drive c.args.disk).faults (g.D.Disk.drive d).faults) (sym c.stop.ensures.disk) (failed.cause same)))

@@ -1,0 +1,84 @@
+-- What an answer rests on, and what it adds to the history.
+use Rattle.std.proofs.Common.{◌≡◌, ◌⊎◌, ℕ, ◌≤◌, List, length, Option, Some, None, Bool, true, false, Result, Ok, Err, refl, ap, inl, inr, arith, length-append}
+use Rattle.std.specs.Prelude.{MatchBool}
+use Rattle.line_link.specs.Lines.{Heard, kept, too_long}
+use Rattle.command_words.specs.Reply.{rests_of}
+use Rattle.command_words.specs.declared.act.Act.{Act}
+use Rattle.command_words.specs.declared.command.Command.{Command}
+use Rattle.command_words.specs.declared.command.Command.TheVariants.{Deposit, Prepare, Split, Balance, Vault}
+use Rattle.command_words.specs.declared.refusal.Refusal.{Refusal}
+use Rattle.command_words.specs.declared.reply.LineFault.{LineFault}
+use Rattle.command_words.specs.declared.reply.Reply.{Reply}
+use Rattle.command_words.specs.declared.reply.Reply.TheVariants.{Done, Prepared, Balanced, Vaulted, Refused, Bad}
+use Rattle.settle_core.specs.Bounds.{Bounds}
+use Rattle.settle_core.specs.Reply.{Answered, is_no_memory, reply_by, history_by}
+use Rattle.settle_core.specs.Verdict.{Question, verdict}
+use Rattle.exchange_top.specs.Holds.{IsStep}
+use Rattle.exchange_top.specs.Request.{request}
+use Rattle.exchange_top.specs.Talk.{AnsweredLine, AnsweredRequest, is_unread}
+use Rattle.exchange_top.specs.declared.wire_json.request.Request.{Request}
+
+-- the history goes on by an act at the most, and the reply rests on no more than it has then
+pub record IsSmallStep (before after : List Act) (reply : Reply) : Type 0 where
+  pub step : IsStep before after
+  pub rests : rests_of reply ≤ length after
+
+by_match : {A B : Type 0} (b : Bool) → MatchBool b A B → A ⊎ B
+by_match true one = inl one
+by_match false other = inr other
+
+-- nothing is added, and the reply rests on nothing
+quiet-step : (before after : List Act) (reply : Reply) → rests_of reply ≡ 0 → after ≡ before → IsSmallStep before after reply
+quiet-step before after reply none same = record { step = inl same; rests = omega (arith, none) }
+
+-- what the rules give to a command that is accepted
+accepted-step : (limits : Bounds) (history : List Act) (account : ℕ) (command : Command) (moment : ℕ)
+    → let q : Question = record { limits = limits; history = history; account = account; command = command; moment = moment } in
+    IsSmallStep history (history_by None q) (reply_by None q)
+accepted-step limits history account (Deposit to amount) moment = record { step = inr (_, refl); rests = omega (arith, length-append {A = Act}) }
+accepted-step limits history account (Prepare oracle question slots) moment = record { step = inr (_, refl); rests = omega (arith, length-append {A = Act}) }
+accepted-step limits history account (Split parent condition sets amount) moment = record { step = inr (_, refl); rests = omega (arith, length-append {A = Act}) }
+accepted-step limits history account (Balance holder key) moment = record { step = inl refl; rests = omega arith }
+accepted-step limits history account Vault moment = record { step = inl refl; rests = omega arith }
+
+given-step : (given : Option Refusal) (q : Question) → IsSmallStep q.history (history_by given q) (reply_by given q)
+given-step None q = accepted-step q.limits q.history q.account q.command q.moment
+given-step (Some refusal) q = record { step = inl refl; rests = omega arith }
+
+same-step : (before after next : List Act) (reply told : Reply) → next ≡ after → told ≡ reply → IsSmallStep before after reply → IsSmallStep before next told
+same-step before after next reply told same equal small = rw (same, equal) small
+
+answered-step : (q : Question) (reply : Reply) (after : List Act) → Answered q reply after → IsSmallStep q.history after reply
+answered-step q reply after answered =
+    elim (by_match (is_no_memory reply) answered) [
+      | inl none ↦ quiet-step q.history after reply (ap rests_of none.0) none.1
+      | inr ruled ↦ same-step q.history (history_by (verdict q) q) after (reply_by (verdict q) q) reply ruled.1 ruled.0 (given-step (verdict q) q)
+    ]
+
+request-step : (limits : Bounds) (history after : List Act) (read : Result Request LineFault) (moment : ℕ) (reply : Reply)
+    → AnsweredRequest limits history read moment reply after → IsSmallStep history after reply
+request-step limits history after (Ok r) moment reply answered =
+    answered-step (record { limits = limits; history = history; account = r.account; command = r.command; moment = moment }) reply after answered
+request-step limits history after (Err fault) moment reply answered = quiet-step history after reply (ap rests_of answered.0) answered.1
+
+unread-rests : (reply : Reply) → is_unread reply ≡ true → rests_of reply ≡ 0
+unread-rests (Bad fault) unread = refl
+unread-rests (Done lsn) unread = cc
+unread-rests (Prepared condition lsn) unread = cc
+unread-rests (Balanced amount rests) unread = cc
+unread-rests (Vaulted rests vault) unread = cc
+unread-rests (Refused refusal rests) unread = cc
+
+by_test : {A B : Type 0} (b : Bool) → MatchBool b A B → ((b ≡ true) × A) ⊎ B
+by_test true one = inl (refl, one)
+by_test false other = inr other
+
+-- each line makes a small step
+pub line-step : (limits : Bounds) (history after : List Act) (line : Heard) (moment : ℕ) (reply : Reply)
+    → AnsweredLine limits history line moment reply after → IsSmallStep history after reply
+line-step limits history after too_long moment reply answered = quiet-step history after reply (ap rests_of answered.0) answered.1
+line-step limits history after (kept text) moment reply answered =
+    elim (by_test (is_unread reply) answered) [
+      | inl unread ↦ quiet-step history after reply (unread-rests reply unread.0) unread.1
+      | inr read ↦ request-step limits history after (request text) moment reply read
+    ]
