@@ -1,11 +1,27 @@
 //! Payloads and batches in bytes that were read.
 
-ghost use Rattle.std.specs.Prelude.{◌≡◌, List, ℕ, ◌++◌, IfSome, IfNone, All};
+ghost use Rattle.std.specs.Prelude.{◌≡◌, ◌≤◌, List, ℕ, ◌++◌, length, IfSome, IfNone, All};
+ghost use Rattle.byteorder.specs.Endian.{big_number};
 ghost use Rattle.journal_store.specs.Format.{IsPayload, payload_bytes, body};
 ghost use Rattle.journal_store.specs.Cut.{HasPayloads, HasBatch, HasNoBatch};
 
 use crate::limits::{MAX_PAYLOAD, MAX_PAYLOADS};
-use byteorder::{BigEndian, ByteOrder};
+
+/// The number in the first two bytes, the highest first.
+fn first_u16(bytes: &[u8]) -> u16
+    requires { 2 ≤ length bytes.now }
+    ensures { result ≡ big_number 2 bytes.now }
+{
+    u16::from_be_bytes([bytes[0], bytes[1]])
+}
+
+/// The number in the first four bytes, the highest first.
+fn first_u32(bytes: &[u8]) -> u32
+    requires { 4 ≤ length bytes.now }
+    ensures { result ≡ big_number 4 bytes.now }
+{
+    u32::from_be_bytes([bytes[0], bytes[1], bytes[2], bytes[3]])
+}
 
 /// The payload in front of the bytes and what is behind it, where a whole one is there.
 pub fn split_payload(bytes: &[u8]) -> Option<(&[u8], &[u8])>
@@ -16,7 +32,7 @@ pub fn split_payload(bytes: &[u8]) -> Option<(&[u8], &[u8])>
     if bytes.len() < 2 {
         return None;
     }
-    let size = BigEndian::read_u16(bytes) as usize;
+    let size = first_u16(bytes) as usize;
     if size == 0 || size > MAX_PAYLOAD || bytes.len() - 2 < size {
         return None;
     }
@@ -48,7 +64,7 @@ pub fn count_of_batch(bytes: &[u8]) -> Option<usize>
     if bytes.len() < 4 {
         return None;
     }
-    let size = BigEndian::read_u32(bytes) as usize;
+    let size = first_u32(bytes) as usize;
     if bytes.len() - 4 <= size {
         return None;
     }

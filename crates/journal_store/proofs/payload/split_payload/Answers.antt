@@ -19,5 +19,5 @@ returns-then-size-eq0-clause-none c = λ p us is are.
 
 pub returns-clause-bytes : goal.returns-clause-bytes
 returns-clause-bytes c =
-    cut-payload c.args.bytes.now _ _ c.read_u16-size.result (λ i. omega (arith, c.type_inv.bytes i)) (omega (arith, c.read_u16-size.ensures)) (omega (arith, c.if-bytes-size.false, c.if-bytes-lt2.false)) (c.split_at.ensures.front ∙ ap (take c.read_u16-size.result) (take_rest c.args.bytes.now 2))
-    (c.split_at.ensures.back ∙ ap (drop c.read_u16-size.result) (take_rest c.args.bytes.now 2))
+    cut-payload c.args.bytes.now _ _ c.first_u16-size.result (λ i. omega (arith, c.type_inv.bytes i)) (omega (arith, c.first_u16-size.ensures)) (omega (arith, c.if-bytes-size.false, c.if-bytes-lt2.false)) (c.split_at.ensures.front ∙ ap (take c.first_u16-size.result) (take_rest c.args.bytes.now 2))
+    (c.split_at.ensures.back ∙ ap (drop c.first_u16-size.result) (take_rest c.args.bytes.now 2))
