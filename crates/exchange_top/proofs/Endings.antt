@@ -130,6 +130,7 @@ ran-served drive is_drive disk middle first ended left_before left_after held_be
   counted = s.ran.counted;
   acts = s.ran.acts;
   kept = λ honest. s.ran.kept (goes.honest ∙ honest);
+  whole = λ honest. s.ran.whole (goes.honest ∙ honest);
   since = λ honest stored image now.
       run-since drive is_drive disk middle first s.ran.history image stored s.front s.longer (holds honest) (λ early. back honest stored (drive disk).moment image (omega arith) early)
       (s.since (goes.honest ∙ honest) (drive disk).moment image goes.moment now);

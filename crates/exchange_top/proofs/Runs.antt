@@ -183,9 +183,10 @@ length-cut lines turns turn counted =
 
 -- A run over a recovered exchange is over. What is left of the disk is given by `last`, and what was told of it by
 -- what each of its images holds now, and held at each moment.
-pub record Over {D : Type 0} (drive : D → Drive) (disk : D) (first : List Act) (turns : List Turn) (lines : ℕ) (history : List Act) (last : D) : Type 0 where
+pub record Over {D : Type 0} (drive : D → Drive) (disk : D) (first : List Act) (status : Status) (turns : List Turn) (lines : ℕ) (history : List Act) (last : D) : Type 0 where
   pub recovered : Honestly (drive disk) (Holds (drive disk).bytes first)
   pub kept : Honestly (drive disk) ((image : List ℕ) → (drive last).image image → HoldsAnswered (take lines turns) history image)
+  pub whole : Honestly (drive disk) ((status ≡ DiskFault → ⊥) → (image : List ℕ) → (drive last).image image → Holds image history)
   pub since : Honestly (drive disk) ((moment : ℕ) (image : List ℕ) → moment ≤ (drive disk).moment → (drive last).image_since moment image
       → (drive disk).image_since moment image ⊎ HoldsFront (length first) history image)
   pub front : take (length first) history ≡ first
@@ -193,10 +194,10 @@ pub record Over {D : Type 0} (drive : D → Drive) (disk : D) (first : List Act)
   pub goes_on : GoesOn (drive disk) (drive last)
 
 -- where nothing was pending as it began, a crash since then left the first history at the least
-since-began : {D : Type 0} (drive : D → Drive) (is_drive : (d : D) → IsDrive (drive d)) (disk : D) (first : List Act) (turns : List Turn) (lines : ℕ) (history : List Act) (last : D)
-    → Over drive disk first turns lines history last
+since-began : {D : Type 0} (drive : D → Drive) (is_drive : (d : D) → IsDrive (drive d)) (disk : D) (first : List Act) (status : Status) (turns : List Turn) (lines : ℕ) (history : List Act) (last : D)
+    → Over drive disk first status turns lines history last
     → Honestly (drive disk) (IsStored (drive disk) → (image : List ℕ) → (drive last).image_since (drive disk).moment image → HoldsFront (length first) history image)
-since-began drive is_drive disk first turns lines history last over honest stored image now =
+since-began drive is_drive disk first status turns lines history last over honest stored image now =
     elim (over.since honest (drive disk).moment image (omega arith) now) [
       | inl early ↦ record {
         acts = length first;
@@ -210,7 +211,7 @@ since-began drive is_drive disk first turns lines history last over honest store
 -- the run, put together
 pub served : {D : Type 0} (drive : D → Drive) (is_drive : (d : D) → IsDrive (drive d)) (disk : D) (first : List Act) (status : Status) (turns : List Turn) (lines more : ℕ) (history : List Act) (last : D)
     (left_before left_next held_before held_next : Option (List ℕ)) (told_before told_next : List ℕ → Type 0)
-    → Over drive disk first turns lines history last
+    → Over drive disk first status turns lines history last
     → IsTalk standard first turns history → IsLegal standard history
     → IfTold left_before left_next (IsRead status (heard_of_turns turns))
     → ((before : List ℕ) → told_before before → told_next (before ++ moments_of_turns turns))
@@ -232,7 +233,8 @@ served drive is_drive disk first status turns lines more history last left_befor
     counted = counted;
     acts = refl;
     kept = over.kept;
-    since = since-began drive is_drive disk first turns lines history last over;
+    whole = over.whole;
+    since = since-began drive is_drive disk first status turns lines history last over;
   };
   from_first = refl;
   front = over.front;
@@ -242,12 +244,13 @@ served drive is_drive disk first status turns lines more history last left_befor
 }
 
 -- the journal has all stored, and every text was written
-pub over-whole : {D : Type 0} (drive : D → Drive) (disk : D) (first history : List Act) (turns : List Turn) (lines : ℕ) (journal : Kept D)
+pub over-whole : {D : Type 0} (drive : D → Drive) (disk : D) (first history : List Act) (status : Status) (turns : List Turn) (lines : ℕ) (journal : Kept D)
     → Storing drive disk first history journal → Honestly (drive disk) (Holds (drive disk).bytes first)
-    → All (λ turn. rests_of turn.reply ≤ length history) turns → Over drive disk first turns lines history journal.disk
-over-whole drive disk first history turns lines journal s recovered rests = record {
+    → All (λ turn. rests_of turn.reply ≤ length history) turns → Over drive disk first status turns lines history journal.disk
+over-whole drive disk first history status turns lines journal s recovered rests = record {
   recovered = recovered;
   kept = λ honest image now. whole-answered (take lines turns) history image (All-take (λ turn. rests_of turn.reply ≤ length history) lines turns rests) (stored-holds drive history journal image (s.stored honest) now);
+  whole = λ honest fine image now. stored-holds drive history journal image (s.stored honest) now;
   since = s.since;
   front = s.front;
   longer = s.longer;
@@ -264,7 +267,7 @@ pub serving-end : {D : Type 0} (drive : D → Drive) (is_drive : (d : D) → IsD
     → Served drive disk first (record { status = status; lines = lines; acts = length history; disk = journal.disk }) left_before left_next held_before held_now told_before told_now
 serving-end drive is_drive disk first status lines count history pending journal left_before left_now left_next held_before held_now told_before told_now s storing recovered legal read whole =
     served drive is_drive disk first status s.turns lines 0 history journal.disk left_before left_next held_before held_now told_before told_now
-    (over-whole drive disk first history s.turns lines journal storing recovered s.rests) s.talk legal read s.moments
+    (over-whole drive disk first history status s.turns lines journal storing recovered s.rests) s.talk legal read s.moments
     (IfTold-weaker held_before held_now _ _ (λ a b h. h ∙ ap (λ (bytes : List ℕ). a ++ bytes) (sym (written-whole lines s.turns s.counted))) s.texts)
     (whole s.counted)
 
@@ -290,7 +293,7 @@ pub serving-cut : {D : Type 0} (drive : D → Drive) (is_drive : (d : D) → IsD
     → Served drive disk first (record { status = WriteFault; lines = lines; acts = length after; disk = next.disk }) left_before left_next held_before held_next told_before told_next
 serving-cut drive is_drive disk first lines count history after pending pending' turn next left_before left_now left_next held_before held_now held_next told_before told_now told_next s storing recovered legal line tick answered front =
     served drive is_drive disk first WriteFault (s.turns ++ turn ∷ []) lines front.0 after next.disk left_before left_next held_before held_next told_before told_next
-    (over-whole drive disk first after (s.turns ++ turn ∷ []) lines next storing recovered (rests-more history after s.turns turn s.rests (line-step standard history after turn.line turn.moment turn.reply answered)))
+    (over-whole drive disk first after WriteFault (s.turns ++ turn ∷ []) lines next storing recovered (rests-more history after s.turns turn s.rests (line-step standard history after turn.line turn.moment turn.reply answered)))
     (IsTalk-more standard first history after s.turns turn s.talk answered) legal
     (read-last first lines count history pending pending' turn left_before left_now left_next held_before held_now told_before told_now s line)
     (told_more told_before told_now told_next s.turns turn s.moments tick)
@@ -318,6 +321,7 @@ serving-lost drive is_drive disk first lines count history after pending pending
     (record {
       recovered = recovered;
       kept = λ honest bytes now. subst (λ (ts : List Turn). HoldsAnswered ts after bytes) (sym few) (lost-answered s.turns history after bytes small.step s.rests (image (storing.stored honest) bytes now));
+      whole = λ honest fine. absurd (fine refl);
       since = storing-since drive disk first history after journal next storing small.step since;
       front = step-take (length first) history after small.step storing.longer ∙ storing.front;
       longer = omega (arith, storing.longer, step-longer history after small.step);

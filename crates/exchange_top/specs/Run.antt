@@ -88,6 +88,8 @@ pub record Ran {D : Type 0} (drive : D → Drive) (disk : D) (ended : Ended D) (
   pub acts : ended.acts ≡ length history
   -- a crash now leaves every act on which a reply rests that was written whole
   pub kept : Honestly (drive disk) ((image : List ℕ) → (drive ended.disk).image image → HoldsAnswered (take ended.lines turns) history image)
+  -- where the disk didn't fail, it leaves the whole history
+  pub whole : Honestly (drive disk) ((ended.status ≡ DiskFault → ⊥) → (image : List ℕ) → (drive ended.disk).image image → Holds image history)
   -- where nothing was pending, a crash since the run began left the recovered history at the least
   pub since : Honestly (drive disk) (IsStored (drive disk) → (image : List ℕ) → (drive ended.disk).image_since (drive disk).moment image → HoldsFront (length first) history image)
 
