@@ -1,5 +1,5 @@
 ghost use Rattle.std.specs.Prelude.{◌≡◌, List, ◌↔◌, IsTrue, Contains};
-ghost use Rattle.outside_faults.specs.Script.{Script, raised_calls};
+ghost use Rattle.outside_faults.specs.Script.{FailingCallsView, raised_calls};
 
 use std::marker::Model;
 
@@ -11,9 +11,9 @@ pub struct FailingCalls {
 }
 
 impl Model for FailingCalls {
-    ghost use Rattle.outside_faults.specs.Script.{Script};
+    ghost use Rattle.outside_faults.specs.Script.{FailingCallsView};
 
-    ghost Value = { Script };
+    ghost Value = { FailingCallsView };
 
     ghost view = { λ c. record { failing = c.failing.items; made = c.made } };
 }

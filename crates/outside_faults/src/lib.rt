@@ -10,6 +10,3 @@ mod fault_count;
 
 pub use failing_calls::FailingCalls;
 pub use fault_count::{Failed, FaultCount};
-
-#[cfg(test)]
-mod tests;
