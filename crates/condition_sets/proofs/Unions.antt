@@ -8,7 +8,8 @@ use Rattle.std.proofs.lemmas.List.Elements.{All-head, All-tail}
 use Rattle.std.proofs.lemmas.Nat.{le_or_l, or_lt, pow_pos}
 use Rattle.std.proofs.lemmas.Nat.Bits.{bit_at_and, bit_at_or, same_from_bits}
 use Rattle.condition_sets.specs.Sets.{IsProper, AreApart, meets, meets_earlier, union_of, first_overlap}
-use Rattle.condition_sets.specs.Places.{first_place, first_place-None, first_place_is_Some}
+use Rattle.condition_sets.specs.Places.{first_place}
+use Rattle.condition_sets.proofs.FirstPlaces.{first_place-None, first_place_is_Some}
 
 -- what two sets together share with a third is what either shares with it
 and-or : (a b c : ℕ) → bit_and (bit_or a b) c ≡ bit_or (bit_and a c) (bit_and b c)

@@ -6,6 +6,7 @@
 
 mod amount;
 mod index_set;
+pub mod laws;
 mod list;
 mod names;
 mod no_memory;
@@ -21,6 +22,3 @@ pub use names::{
 pub use no_memory::NoMemory;
 pub use partition::{PartitionFault, Union, check_partition};
 pub use slot_count::{MAX_SLOTS, MIN_SLOTS, SlotCount};
-
-#[cfg(test)]
-mod tests;
