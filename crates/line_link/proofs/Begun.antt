@@ -1,14 +1,14 @@
--- What is heard of a line that has begun, as the bytes after it come in parts.
-use Rattle.std.proofs.Common.{◌≡◌, ◌==◌, ℕ, ◌+◌, ◌<◌, ◌≤◌, suc, true, false, List, [], ◌∷◌, ◌++◌, length, take, drop, map, refl, sym, ap, subst, ◌∙◌, arith, append_assoc, append-nil, length-append, ⊎_elim}
-use Rattle.std.proofs.lemmas.Bool.{cases_lt, cases_Bool, false_from_ne_true, cond-true, cond-false, eqb-true}
-use Rattle.std.proofs.lemmas.List.{drop_more, get_or-take, length-take-le, take-append-drop}
+-- A line that has begun, as its bytes come in parts.
+use Rattle.std.proofs.Common.{◌≡◌, ◌==◌, ℕ, ◌+◌, ◌<◌, ◌≤◌, suc, cond, true, false, List, [], ◌∷◌, ◌++◌, length, take, drop, Option, Some, None, refl, sym, ap, subst, ◌∙◌, arith, inl, inr, append_assoc, append-nil, length-append, ⊎_elim}
+use Rattle.std.specs.Io.KnownBytes.{Consumes, IsAtEnd, Keeps}
+use Rattle.std.proofs.lemmas.Bool.{cases_lt, false_from_ne_true, eqb-true}
+use Rattle.std.proofs.lemmas.List.{drop_more, get_or-take, length-take-le, take-append-drop, append_cancel_right, nil_from_length}
+use Rattle.outside_faults.specs.Told.{IfTold}
 use Rattle.line_link.specs.declared.line_reader.TheConstants.{MAX_LINE, NEWLINE}
-use Rattle.line_link.specs.declared.line_reader.Line.{Line}
-use Rattle.line_link.specs.declared.line_reader.Line.TheVariants.{Whole, TooLong}
-use Rattle.line_link.specs.Heard.{heard}
-use Rattle.line_link.specs.Lines.{Heard, kept, too_long, heard_of, heard_lines, lines, onto_first}
-use Rattle.line_link.specs.Begun.{grown, heard_last, heard_on, Ends, GoesOn}
+use Rattle.line_link.specs.LineReader.{lengthened, at_least, Takes, TakesNoLine, EndsLine, LengthensLine}
+use Rattle.line_link.specs.Lines.{Heard, kept, too_long, heard_of, newlines, IsFirstLine}
 use Rattle.memchr.specs.Find.{Nowhere, Passes, is_byte}
+use Rattle.line_link.proofs.FirstLines.{newlines-append, newlines-cons}
 
 pub heard_of-short : (line : List ℕ) → length line ≤ MAX_LINE → heard_of line ≡ kept line
 heard_of-short line short = grind arith
@@ -16,112 +16,145 @@ heard_of-short line short = grind arith
 pub heard_of-long : (line : List ℕ) → MAX_LINE < length line → heard_of line ≡ too_long
 heard_of-long line long = grind arith
 
--- bytes that come in two parts
-pub grown-more : (begun : Heard) (xs ys : List ℕ) → grown (grown begun xs) ys ≡ grown begun (xs ++ ys)
-grown-more too_long xs ys = refl
-grown-more (kept line) xs ys =
+-- a line of which nothing is heard but that it was kept has no bytes
+kept-nil : (text : List ℕ) → heard_of text ≡ kept [] → text ≡ []
+kept-nil text nothing =
     ⊎_elim
-    (λ long. ap (λ h. grown h ys) (heard_of-long (line ++ xs) long) ∙ sym (heard_of-long (line ++ (xs ++ ys)) (omega (arith, length-append {A = ℕ}))))
-    (λ short. ap (λ h. grown h ys) (heard_of-short (line ++ xs) short) ∙ ap heard_of (append_assoc line xs ys))
-    (cases_lt MAX_LINE (length (line ++ xs)))
+    (λ long. absurd (let no : too_long ≡ kept [] = sym (heard_of-long text long) ∙ nothing in cc))
+    (λ short. let same : kept text ≡ kept [] = sym (heard_of-short text short) ∙ nothing in cc)
+    (cases_lt MAX_LINE (length text))
 
--- no byte is a newline
-abbrev pub HasNoNewline : List ℕ → Type 0
-HasNoNewline part = Nowhere (Passes (is_byte NEWLINE) part) 0 (length part)
+-- bytes that come in two parts
+pub lengthened-heard : (xs ys : List ℕ) → lengthened (heard_of xs) ys ≡ heard_of (xs ++ ys)
+lengthened-heard xs ys =
+    ⊎_elim
+    (λ long. ap (λ h. lengthened h ys) (heard_of-long xs long) ∙ sym (heard_of-long (xs ++ ys) (omega (arith, length-append {A = ℕ}))))
+    (λ short. ap (λ h. lengthened h ys) (heard_of-short xs short))
+    (cases_lt MAX_LINE (length xs))
 
--- a byte that isn't a newline
-heard_on-byte : (begun : Heard) (byte : ℕ) (rest : List ℕ) → (byte == NEWLINE) ≡ false
-    → heard_on begun (byte ∷ rest) ≡ heard_on (grown begun (byte ∷ [])) rest
-heard_on-byte begun byte rest other = cond-false _ _ _ other
+-- a line has at least as many bytes as are heard of it
+pub at_least-heard : (text : List ℕ) → at_least (heard_of text) ≤ length text
+at_least-heard text =
+    ⊎_elim
+    (λ long. subst (λ h. at_least h ≤ length text) (sym (heard_of-long text long)) (omega arith))
+    (λ short. subst (λ h. at_least h ≤ length text) (sym (heard_of-short text short)) (omega arith))
+    (cases_lt MAX_LINE (length text))
 
--- a part without a newline, after a first part
-pub heard_on-part : (begun : Heard) (front part rest : List ℕ) → HasNoNewline part
-    → heard_on (grown begun front) (part ++ rest) ≡ heard_on (grown begun (front ++ part)) rest
-heard_on-part begun front [] rest none = ap (λ l. heard_on (grown begun l) rest) (sym (append-nil front))
-heard_on-part begun front (x ∷ part) rest none =
-    heard_on-byte (grown begun front) x (part ++ rest) (false_from_ne_true _ (none 0 (omega arith) (omega arith)))
-    ∙ ap (λ h. heard_on h (part ++ rest)) (grown-more begun front (x ∷ []))
-    ∙ heard_on-part begun (front ++ x ∷ []) part rest (λ k low high. none (suc k) (omega arith) (omega arith))
-    ∙ ap (λ l. heard_on (grown begun l) rest) (append_assoc front (x ∷ []) part)
-
--- the reader's line has at most as many bytes as are kept
-grown-nil : (line : Line) (text : List ℕ) → length text ≤ MAX_LINE → grown (heard line text) [] ≡ heard line text
-grown-nil Whole text short = ap heard_of (append-nil text) ∙ heard_of-short text short
-grown-nil TooLong text short = refl
-
--- the first bytes after the reader's line have no newline
-heard_on-first : (line : Line) (text part rest : List ℕ) → length text ≤ MAX_LINE → HasNoNewline part
-    → heard_on (heard line text) (part ++ rest) ≡ heard_on (grown (heard line text) part) rest
-heard_on-first line text part rest short none =
-    ap (λ h. heard_on h (part ++ rest)) (sym (grown-nil line text short)) ∙ heard_on-part (heard line text) [] part rest none
-
-pub GoesOn-part : (line : Line) (text pending : List ℕ) (next : Heard) → length text ≤ MAX_LINE → HasNoNewline pending
-    → next ≡ grown (heard line text) pending
-    → GoesOn (heard line text) pending next
-GoesOn-part line text pending next short none is rest = heard_on-first line text pending rest short none ∙ ap (λ h. heard_on h rest) (sym is)
+-- bytes among which a search finds no newline have none
+pub newlines-nowhere : (part : List ℕ) → Nowhere (Passes (is_byte NEWLINE) part) 0 (length part) → newlines part ≡ 0
+newlines-nowhere [] none = refl
+newlines-nowhere (byte ∷ part) none =
+    let other : (byte == NEWLINE) ≡ false = false_from_ne_true _ (none 0 (omega arith) (omega arith)) in
+    let after : newlines part ≡ 0 = newlines-nowhere part (λ k low high. none (suc k) (omega arith) (omega arith)) in
+    let same : newlines (byte ∷ part) ≡ 0 + newlines part = newlines-cons byte part ∙ ap (λ b. cond b 1 0 + newlines part) other in
+    omega (arith, same)
 
 -- the bytes before a place have no newline where none stands below that place
-none_before : (pending : List ℕ) (at : ℕ) → at ≤ length pending → Nowhere (Passes (is_byte NEWLINE) pending) 0 at → HasNoNewline (take at pending)
-none_before pending at within before k low high =
+pub newlines-before : (pending : List ℕ) (at : ℕ) → at ≤ length pending → Nowhere (Passes (is_byte NEWLINE) pending) 0 at → newlines (take at pending) ≡ 0
+newlines-before pending at within before = newlines-nowhere (take at pending) (λ k low high.
     let below : k < at = omega (arith, length-take-le at pending within) in
-    subst (λ byte. (byte == NEWLINE) ≡ true → ⊥) (sym (get_or-take at pending k 0 below)) (before k low below)
+    subst (λ byte. (byte == NEWLINE) ≡ true → ⊥) (sym (get_or-take at pending k 0 below)) (before k low below))
 
-pub Ends-newline : (line : Line) (text pending : List ℕ) (at : ℕ) (next : Heard) (left : List ℕ) → length text ≤ MAX_LINE → at < length pending
-    → Nowhere (Passes (is_byte NEWLINE) pending) 0 at → Passes (is_byte NEWLINE) pending at
-    → next ≡ grown (heard line text) (take at pending) → left ≡ drop (at + 1) pending
-    → Ends (heard line text) pending next left
-Ends-newline line text pending at next left short within before here is rest_is rest =
-    let begun = heard line text in
-    let front = take at pending in
-    let onward : drop at pending ≡ NEWLINE ∷ left =
-    drop_more pending at 0 within
-    ∙ ap (λ byte. byte ∷ drop (at + 1) pending) (eqb-true _ _ here)
-    ∙ ap (λ l. NEWLINE ∷ l) (sym rest_is) in
-    let split : pending ≡ front ++ NEWLINE ∷ left = sym (take-append-drop at pending) ∙ ap (λ l. front ++ l) onward in
-    ap (λ l. heard_on begun (l ++ rest)) split
-    ∙ ap (heard_on begun) (append_assoc front (NEWLINE ∷ left) rest)
-    ∙ heard_on-first line text front (NEWLINE ∷ (left ++ rest)) short (none_before pending at (omega arith) before)
-    ∙ ap (λ h. h ∷ heard_lines (left ++ rest)) (sym is)
+-- the bytes up to a newline, the newline, and what stands behind it
+pub split-newline : (pending : List ℕ) (at : ℕ) → at < length pending → Passes (is_byte NEWLINE) pending at
+    → pending ≡ take at pending ++ NEWLINE ∷ drop (at + 1) pending
+split-newline pending at within here =
+    sym (take-append-drop at pending)
+    ∙ ap (λ l. take at pending ++ l) (drop_more pending at 0 within ∙ ap (λ byte. byte ∷ drop (at + 1) pending) (eqb-true _ _ here))
 
--- the bytes of a line that has begun, before the lines of the bytes after it
-abbrev glued : List ℕ → List (List ℕ) → List (List ℕ)
-glued [] [] = []
-glued (byte ∷ bytes) [] = (byte ∷ bytes) ∷ []
-glued front (line ∷ others) = (front ++ line) ∷ others
+-- a line has begun at the front of the bytes, of which this is the rest
+pub record HasBegun (bytes : List ℕ) (line : Heard) (rest : List ℕ) : Type 0 where
+  pub text : List ℕ
+  pub is_heard : line ≡ heard_of text
+  pub is_one : newlines text ≡ 0
+  pub split : bytes ≡ text ++ rest
 
-glued-more : (front : List ℕ) (byte : ℕ) (others : List (List ℕ)) → glued (front ++ byte ∷ []) others ≡ glued front (onto_first byte others)
-glued-more [] byte [] = refl
-glued-more (x ∷ front) byte [] = refl
-glued-more front byte (line ∷ others) = ap (λ l. l ∷ others) (append_assoc front (byte ∷ []) line)
+-- all that was pending belongs to the line
+HasBegun-longer : (bytes : List ℕ) (begun next : Heard) (pending rest : List ℕ) → HasBegun bytes begun (pending ++ rest) → LengthensLine begun pending next → HasBegun bytes next rest
+HasBegun-longer bytes begun next pending rest has longer = record {
+  text = has.text ++ pending;
+  is_heard = longer.longer ∙ ap (λ h. lengthened h pending) has.is_heard ∙ lengthened-heard has.text pending;
+  is_one = omega (arith, newlines-append has.text pending, has.is_one, longer.is_part);
+  split = has.split ∙ sym (append_assoc has.text pending rest);
+}
 
-glued-nil : (others : List (List ℕ)) → glued [] others ≡ others
-glued-nil [] = refl
-glued-nil (line ∷ others) = refl
+-- the line goes on in bytes that come
+pub begun-on : (old mid new : Option (List ℕ)) (before pending got : List ℕ) (begun next : Heard)
+    → IfTold old mid (λ first rest. HasBegun (before ++ first) begun (pending ++ rest)) → LengthensLine begun pending next → Consumes mid new got
+    → IfTold old new (λ first rest. HasBegun (before ++ first) next (got ++ rest))
+begun-on None mid new before pending got begun next told longer consumed = tt
+begun-on (Some x) None new before pending got begun next told longer consumed = absurd told
+begun-on (Some x) (Some y) None before pending got begun next told longer consumed = absurd consumed
+begun-on (Some x) (Some y) (Some z) before pending got begun next told longer consumed =
+    subst (HasBegun (before ++ x) next) consumed (HasBegun-longer (before ++ x) begun next pending y told longer)
 
-heard_last-some : (byte : ℕ) (bytes : List ℕ) → heard_last (heard_of (byte ∷ bytes)) ≡ heard_of (byte ∷ bytes) ∷ []
-heard_last-some byte bytes =
-    let line = byte ∷ bytes in
-    let alone : Heard → List Heard = λ h. h ∷ [] in
-    ⊎_elim
-    (λ long. ap heard_last (heard_of-long line long) ∙ ap alone (sym (heard_of-long line long)))
-    (λ short. ap heard_last (heard_of-short line short) ∙ ap alone (sym (heard_of-short line short)))
-    (cases_lt MAX_LINE (length line))
+pub takes-on : (old mid new : Option (List ℕ)) (got : List ℕ) (first count counted : ℕ)
+    → IfTold old mid (Takes first count) → Consumes mid new got → counted ≡ count + length got → IfTold old new (Takes first counted)
+takes-on None mid new got first count counted told consumed more = tt
+takes-on (Some x) None new got first count counted told consumed more = absurd told
+takes-on (Some x) (Some y) None got first count counted told consumed more = absurd consumed
+takes-on (Some x) (Some y) (Some z) got first count counted told consumed more = record {
+  since = told.since ++ got;
+  bytes = told.bytes ∙ ap (λ l. told.since ++ l) consumed ∙ sym (append_assoc told.since got z);
+  counted = omega (arith, told.counted, more, length-append told.since got);
+}
 
--- a line that has begun is heard as the first line of all the bytes
-heard_on-glued : (front rest : List ℕ) → heard_on (heard_of front) rest ≡ map heard_of (glued front (lines rest))
-heard_on-glued [] [] = refl
-heard_on-glued (byte ∷ bytes) [] = heard_last-some byte bytes
-heard_on-glued front (byte ∷ rest) =
-    let onto : List (List ℕ) → List Heard = λ others. map heard_of (glued front others) in
-    ⊎_elim
-    (λ newline. cond-true _ _ _ newline ∙ ap (λ l. heard_of l ∷ heard_lines rest) (sym (append-nil front)) ∙ ap onto (sym (cond-true _ _ _ newline)))
-    (λ other. cond-false _ _ _ other
-    ∙ ap (λ h. heard_on h rest) (grown-more (kept []) front (byte ∷ []))
-    ∙ heard_on-glued (front ++ byte ∷ []) rest
-    ∙ ap (map heard_of) (glued-more front byte (lines rest))
-    ∙ ap onto (sym (cond-false _ _ _ other)))
-    (cases_Bool (byte == NEWLINE))
+-- the line ends in the pending bytes
+pub first-ended : (old new : Option (List ℕ)) (before pending left : List ℕ) (begun line : Heard)
+    → IfTold old new (λ first rest. HasBegun (before ++ first) begun (pending ++ rest)) → EndsLine begun pending line left
+    → IfTold old new (λ first rest. IsFirstLine line (before ++ first) (left ++ rest))
+first-ended None new before pending left begun line told ended = tt
+first-ended (Some x) None before pending left begun line told ended = absurd told
+first-ended (Some x) (Some y) before pending left begun line told ended =
+    let whole = told.text ++ ended.part in
+    record {
+      text = whole;
+      is_heard = ended.whole ∙ ap (λ h. lengthened h ended.part) told.is_heard ∙ lengthened-heard told.text ended.part;
+      is_one = omega (arith, newlines-append told.text ended.part, told.is_one, ended.is_part);
+      ends = inl (told.split ∙ ap (λ l. told.text ++ (l ++ y)) ended.split
+          ∙ ap (λ l. told.text ++ l) (append_assoc ended.part (NEWLINE ∷ left) y)
+          ∙ sym (append_assoc told.text ended.part (NEWLINE ∷ (left ++ y))));
+    }
 
--- a line that has begun without bytes is the first of the lines that follow
-pub heard_on-start : (rest : List ℕ) → heard_on (kept []) rest ≡ heard_lines rest
-heard_on-start rest = heard_on-glued [] rest ∙ ap (map heard_of) (glued-nil (lines rest))
+-- the line ends with the bytes of the source
+pub first-last : (old mid new : Option (List ℕ)) (before pending got : List ℕ) (begun line : Heard)
+    → IfTold old mid (λ first rest. HasBegun (before ++ first) begun (pending ++ rest)) → LengthensLine begun pending line → Consumes mid new got
+    → length got ≡ 0 → IsAtEnd new → 0 < at_least line
+    → IfTold old new (λ first rest. IsFirstLine line (before ++ first) (got ++ rest))
+first-last None mid new before pending got begun line told longer consumed none end some = tt
+first-last (Some x) None new before pending got begun line told longer consumed none end some = absurd told
+first-last (Some x) (Some y) None before pending got begun line told longer consumed none end some = absurd consumed
+first-last (Some x) (Some y) (Some z) before pending got begun line told longer consumed none end some =
+    let has = HasBegun-longer (before ++ x) begun line pending y told longer in
+    let nothing : got ++ z ≡ [] = ap (λ l. l ++ z) (nil_from_length got none) ∙ end in
+    let long : at_least line ≤ length has.text = subst (λ h. at_least h ≤ length has.text) (sym has.is_heard) (at_least-heard has.text) in
+    record {
+      text = has.text;
+      is_heard = has.is_heard;
+      is_one = has.is_one;
+      ends = inr (has.split ∙ ap (λ l. has.text ++ l) (consumed ∙ nothing) ∙ append-nil has.text, nothing, omega (arith, long));
+    }
+
+-- a line without bytes that goes on to the end is none
+pub nothing-left : (old mid new : Option (List ℕ)) (before pending got : List ℕ) (begun : Heard)
+    → IfTold old mid (λ first rest. HasBegun (before ++ first) begun (pending ++ rest)) → LengthensLine begun pending (kept []) → Consumes mid new got
+    → length got ≡ 0 → IsAtEnd new → IfTold old new (λ first rest. (before ++ first ≡ []) × (rest ≡ []))
+nothing-left None mid new before pending got begun told longer consumed none end = tt
+nothing-left (Some x) None new before pending got begun told longer consumed none end = absurd told
+nothing-left (Some x) (Some y) None before pending got begun told longer consumed none end = absurd consumed
+nothing-left (Some x) (Some y) (Some z) before pending got begun told longer consumed none end =
+    let has = HasBegun-longer (before ++ x) begun (kept []) pending y told longer in
+    let nothing : got ++ z ≡ [] = ap (λ l. l ++ z) (nil_from_length got none) ∙ end in
+    (has.split ∙ ap (λ l. l ++ y) (kept-nil has.text (sym has.is_heard)) ∙ consumed ∙ nothing, end)
+
+-- where no line ended by then and nothing more was taken, none ends in what was taken
+pub no-line : (old mid new : Option (List ℕ)) (before pending : List ℕ) (begun next : Heard)
+    → IfTold old mid (λ first rest. HasBegun (before ++ first) begun (pending ++ rest)) → LengthensLine begun pending next → Keeps mid new
+    → IfTold old new (TakesNoLine before)
+no-line None mid new before pending begun next told longer same = tt
+no-line (Some x) None new before pending begun next told longer same = absurd told
+no-line (Some x) (Some y) None before pending begun next told longer same = absurd same
+no-line (Some x) (Some y) (Some z) before pending begun next told longer same = λ since taken.
+    let has = HasBegun-longer (before ++ x) begun next pending y told longer in
+    let whole = append_cancel_right (before ++ since) has.text z (append_assoc before since z ∙ ap (λ l. before ++ l) (sym taken) ∙ has.split ∙ ap (λ l. has.text ++ l) (sym same)) in
+    ap newlines whole ∙ has.is_one

@@ -1,7 +1,4 @@
-pub mod Begun
-pub mod Heard
-pub mod LineLaws
+pub mod LineReader
 pub mod Lines
 pub mod Memory
-pub mod Reading
 pub mod Status

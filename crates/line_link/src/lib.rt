@@ -5,6 +5,7 @@
 //! [`write_all`] writes a text whole or counts a fault. [`Status`] says how a run ended.
 #![tactic(auto)]
 
+pub mod laws;
 mod line_reader;
 mod link;
 mod memory_link;
@@ -22,6 +23,3 @@ pub use memory_source::MemorySource;
 pub use sink::{Sink, WriteFault, write_all};
 pub use source::Source;
 pub use status::Status;
-
-#[cfg(test)]
-mod tests;

@@ -1,10 +1,10 @@
-ghost use Rattle.std.specs.Prelude.{◌≡◌, ◌≢◌, ℕ, ◌+◌, ◌<◌, ◌≤◌, false, List, [], ◌∷◌, ◌++◌, length, take, vec_len, vec_capacity, Ok, Err, IsTrue, IfOk, IfErr, OnOk, OnErr};
+ghost use Rattle.std.specs.Prelude.{◌≡◌, ◌≢◌, ℕ, ◌+◌, ◌<◌, ◌≤◌, false, [], ◌++◌, length, take, vec_len, vec_capacity, Ok, Err, IsTrue, IfOk, IfErr, OnOk, OnErr};
 ghost use Rattle.std.specs.Io.KnownBytes.{Consumes, Keeps, IsAtEnd};
 ghost use Rattle.outside_faults.specs.Faults.{HasCause, Rose};
 ghost use Rattle.outside_faults.specs.Told.{IfTold};
-ghost use Rattle.line_link.specs.Lines.{heard_lines};
-ghost use Rattle.line_link.specs.Heard.{heard};
-ghost use Rattle.line_link.specs.Begun.{heard_on, grown, at_least, Ends, GoesOn};
+ghost use Rattle.line_link.specs.Lines.{kept, newlines, IsFirstLine};
+ghost use Rattle.line_link.specs.LineReader.{heard, lengthened, at_least, Takes, TakesNoLine, EndsLine, LengthensLine};
+ghost use Rattle.line_link.specs.declared.line_reader.Line.TheVariants.{TooLong};
 ghost use Rattle.line_link.specs.declared.line_reader.ReadEnd.TheVariants.{End, ReadFault, InputLimit};
 
 use crate::source::Source;
@@ -44,7 +44,7 @@ pub enum ReadEnd {
 }
 
 /// Cuts the bytes of a source into lines. It takes its memory as it is made, keeps one line and one piece, and
-/// copies each byte twice at the most. After an `Err` the line in progress isn't told.
+/// copies each byte twice at the most. A line that had begun before an `Err` isn't told.
 #[derive(Drop)]
 pub struct LineReader {
     piece: Vec<u8>,
@@ -57,9 +57,9 @@ pub struct LineReader {
 
 impl Model for LineReader {
     ghost use Rattle.std.specs.Prelude.{ℕ, ◌-◌, ◌≤◌, ◌≡◌, take, drop, vec_len, vec_capacity};
-    ghost use Rattle.line_link.specs.Reading.{Reading};
+    ghost use Rattle.line_link.specs.LineReader.{LineReaderView};
 
-    ghost Value = { Reading };
+    ghost Value = { LineReaderView };
 
     ghost view = { λ r. record {
       pending = take (r.end - r.start) (drop r.start r.piece.items);
@@ -75,7 +75,7 @@ impl Model for LineReader {
 }
 
 impl LineReader {
-    ghost use Rattle.line_link.specs.Reading.{unread};
+    ghost use Rattle.line_link.specs.LineReader.{untold};
 
     /// Nothing is taken yet. At most `limit` bytes will be.
     pub fn new(alloc: Global, limit: u64) -> Result<LineReader, NoMemory>
@@ -104,17 +104,21 @@ impl LineReader {
     pub fn next<S: Source>(&mut self, source: &mut S) -> Result<Line, ReadEnd>
         // The line is the first of what was pending and what was left, and the rest is now pending and left.
         ensures line { IfOk result (λ line. IfTold (S.left source.old) (S.left source.new) (λ before after.
-            heard_lines (self.old.pending ++ before) ≡ heard line self.new.text ∷ heard_lines (self.new.pending ++ after))) }
-        ensures progress { OnOk result (unread self.new < unread self.old) }
+            IsFirstLine (heard line self.new.text) (self.old.pending ++ before) (self.new.pending ++ after))) }
+        ensures too_long { result ≡ Ok TooLong → self.new.text ≡ [] }
+        ensures progress { OnOk result (untold self.new < untold self.old) }
 
+        // Where no line is told, none was whole.
         ensures end { result ≡ Err End → IfTold (S.left source.old) (S.left source.new) (λ before after.
             (self.old.pending ++ before ≡ []) × (after ≡ [])) }
+        ensures no_line { OnErr result (newlines self.old.pending ≡ 0) }
+        ensures none_taken { OnErr result (IfTold (S.left source.old) (S.left source.new) (TakesNoLine self.old.pending)) }
         ensures read_fault { result ≡ Err ReadFault →
             Rose (S.read_faults source.old) (S.read_faults source.new) × (self.new.taken < self.new.limit) }
         ensures input_limit { result ≡ Err InputLimit → self.new.taken ≡ self.new.limit }
+        ensures nothing_pending { OnErr result (self.new.pending ≡ []) }
 
-        ensures taken { IfTold (S.left source.old) (S.left source.new) (λ before after.
-            self.new.taken + length after ≡ self.old.taken + length before) }
+        ensures taken { IfTold (S.left source.old) (S.left source.new) (Takes self.old.taken self.new.taken) }
         ensures limit { self.new.limit ≡ self.old.limit }
         ensures within { self.new.taken ≤ self.new.limit }
         ensures never_falls { S.read_faults source.old ≤ S.read_faults source.new }
@@ -132,8 +136,9 @@ impl LineReader {
 
     // Takes what is pending of the line in progress, with its newline where one is pending. Tells whether it ended.
     fn take_part(&mut self, line: &mut Line) -> bool
-        ensures ended { IsTrue result → Ends (heard line.old self.old.text) self.old.pending (heard line.new self.new.text) self.new.pending }
-        ensures open { result ≡ false → GoesOn (heard line.old self.old.text) self.old.pending (heard line.new self.new.text) }
+        ensures ended { IsTrue result → EndsLine (heard line.old self.old.text) self.old.pending (heard line.new self.new.text) self.new.pending }
+        ensures open { result ≡ false → LengthensLine (heard line.old self.old.text) self.old.pending (heard line.new self.new.text) }
+        ensures too_long { line.new ≡ TooLong → self.new.text ≡ [] }
         ensures shorter { IsTrue result → length self.new.pending < length self.old.pending }
         ensures empty { result ≡ false → self.new.pending ≡ [] }
         ensures begun { result ≡ false → at_least (heard line.new self.new.text) ≤ length self.old.pending + at_least (heard line.old self.old.text) }
@@ -182,9 +187,9 @@ impl LineReader {
 
     // What is told of the line in progress as the source ends.
     fn last(&self, begun: Line) -> Result<Line, ReadEnd>
-        ensures ok { IfOk result (λ told. heard_on (heard begun self.now.text) [] ≡ heard told self.now.text ∷ []) }
+        ensures ok { IfOk result (λ told. told ≡ begun) }
         ensures some { OnOk result (0 < at_least (heard begun self.now.text)) }
-        ensures err { OnErr result (heard_on (heard begun self.now.text) [] ≡ []) }
+        ensures err { OnErr result (heard begun self.now.text ≡ kept []) }
         ensures end { IfErr result (λ e. e ≡ End) }
     {
         if begun == Line::Whole && self.line.is_empty() {
@@ -212,7 +217,8 @@ fn read_front<S: Source>(source: &mut S, piece: &mut [u8], most: usize) -> Resul
 fn extended(bytes: &mut Vec<u8>, line: Line, part: &[u8]) -> Line
     requires within { vec_len bytes.old ≤ MAX_LINE }
     requires room { MAX_LINE ≤ vec_capacity bytes.old }
-    ensures value { heard result bytes.new.items ≡ grown (heard line bytes.old.items) part.now }
+    ensures value { heard result bytes.new.items ≡ lengthened (heard line bytes.old.items) part.now }
+    ensures too_long { result ≡ TooLong → bytes.new.items ≡ [] }
     ensures stays_within { vec_len bytes.new ≤ MAX_LINE }
     ensures keeps_room { MAX_LINE ≤ vec_capacity bytes.new }
 {

@@ -4,7 +4,7 @@ ghost use Rattle.std.specs.Io.KnownBytes.{ReadConsumes};
 ghost use Rattle.outside_faults.specs.Faults.{HasCause};
 ghost use Rattle.outside_faults.specs.Script.{raised_calls};
 ghost use Rattle.outside_faults.specs.Told.{no_side};
-ghost use Rattle.line_link.specs.Memory.{Content};
+ghost use Rattle.line_link.specs.Memory.{MemoryBytesView};
 
 use crate::source::Source;
 use outside_faults::{Failed, FailingCalls, FaultCount};
@@ -22,9 +22,9 @@ pub struct MemorySource {
 
 impl Model for MemorySource {
     ghost use Rattle.std.specs.Prelude.{ℕ, ◌≤◌, ◌<◌, drop, vec_len};
-    ghost use Rattle.line_link.specs.Memory.{Content};
+    ghost use Rattle.line_link.specs.Memory.{MemoryBytesView};
 
-    ghost Value = { Content };
+    ghost Value = { MemoryBytesView };
 
     ghost view = { λ s. record { bytes = drop s.at s.bytes.items; faults = s.faults; piece = s.piece; script = s.failing } };
 

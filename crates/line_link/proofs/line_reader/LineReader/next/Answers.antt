@@ -1,47 +1,60 @@
--- The line in progress begins without bytes, and nothing is told at the end only where there was no byte.
-use Rattle.std.proofs.Common.{◌≡◌, ℕ, List, [], ◌++◌, length, Option, Some, None, Ok, sym, ap, ◌∙◌, rules}
-use Rattle.std.proofs.lemmas.List.{nil_from_length}
-use Rattle.std.specs.Io.KnownBytes.{Consumes, IsAtEnd}
-use Rattle.outside_faults.specs.Told.{IfTold, IfTold-same}
-use Rattle.line_link.specs.Lines.{Heard, kept, heard_lines}
-use Rattle.line_link.specs.LineLaws.{heard_lines-nil}
-use Rattle.line_link.specs.Heard.{heard}
-use Rattle.line_link.specs.Begun.{heard_on, GoesOn}
-use Rattle.line_link.specs.Reading.{Reading}
-use Rattle.line_link.proofs.Begun.{heard_on-start}
+-- The line in progress begins without bytes, and grows by what is pending until a newline or the end comes.
+use Rattle.std.proofs.Common.{◌≡◌, ◌<◌, ◌+◌, length, List, ℕ, Result, Ok, Err, IfOk, OnOk, OnErr, sym, ap, subst, ◌∙◌, inl, inr, rules}
+use Rattle.line_link.specs.declared.line_reader.Line.{Line}
+use Rattle.line_link.specs.declared.line_reader.ReadEnd.{ReadEnd}
+use Rattle.line_link.specs.LineReader.{heard, at_least, LengthensLine}
+use Rattle.line_link.specs.Lines.{newlines}
+use Rattle.line_link.proofs.Begun.{begun-on, takes-on, first-ended, first-last, no-line}
 use Rattle.line_link.proofs.line_reader.LineReader.next.Goals as goal
 
-begins : (text was now rest : List ℕ) → text ≡ [] → now ≡ was → heard_lines (was ++ rest) ≡ heard_on (kept text) (now ++ rest)
-begins text was now rest none same =
-    ap (λ l. heard_lines (l ++ rest)) (sym same) ∙ sym (ap (λ t. heard_on (kept t) (now ++ rest)) none ∙ heard_on-start (now ++ rest))
+-- a call that answers this answer, where it is Ok
+if_ok : (r : Result Line ReadEnd) (begun : Line) (P : Line → Type 0) (some : Type 0) → IfOk r (λ told. told ≡ begun) → OnOk r some → (some → P begun) → IfOk r P
+if_ok (Ok told) begun P some same has then = subst P (sym same) (then has)
+if_ok (Err end) begun P some same has then = tt
 
-pub loop-self-init : goal.loop-self-init
-loop-self-init g c = record {
-  content = IfTold-same (g.S.Source.left c.args.source.now) _ (λ rest. begins _ _ _ rest c.clear.ensures.items (ap (λ (r : Reading). r.pending) c.self.view_is));
-  counted = search rules;
-  progress = search rules;
-  limit = search rules;
-  within = search rules;
-  never_falls = search rules;
-  kept = search rules;
-}
+on_err : {T E : Type 0} (r : Result T E) (P : Type 0) → P → OnErr r P
+on_err (Ok x) P holds = tt
+on_err (Err e) P holds = holds
 
-nothing_left : (old mid new : Option (List ℕ)) (before pending got : List ℕ) (begun next : Heard)
-    → IfTold old mid (λ first rest. heard_lines (before ++ first) ≡ heard_on begun (pending ++ rest)) → GoesOn begun pending next
-    → Consumes mid new got → length got ≡ 0 → IsAtEnd new → heard_on next [] ≡ []
-    → IfTold old new (λ first rest. (before ++ first ≡ []) × (rest ≡ []))
-nothing_left None mid new before pending got begun next told goes consumed none end last = tt
-nothing_left (Some x) None new before pending got begun next told goes consumed none end last = absurd told
-nothing_left (Some x) (Some y) None before pending got begun next told goes consumed none end last = absurd consumed
-nothing_left (Some x) (Some y) (Some z) before pending got begun next told goes consumed none end last =
-    let empty : y ≡ [] = consumed ∙ ap (λ l. l ++ z) (nil_from_length got none) ∙ end in
-    (heard_lines-nil _ (told ∙ ap (λ l. heard_on begun (pending ++ l)) empty ∙ goes [] ∙ last), end)
-
-pub returns-then-branch-eq0-clause-end : goal.returns-then-branch-eq0-clause-end
-returns-then-branch-eq0-clause-end g c = λ is.
+pub loop-self-preserved : goal.loop-self-preserved
+loop-self-preserved g c =
     let filled = c.in_ok-fill.ensures in
-    let begun = heard c.loop-self.line c.loop-self.self.text in
-    let next = heard c.take_part.new.line c.take_part.new.self.text in
-    let last = rw filled.rest.1 at rw is at c.last.ensures.err in
-    nothing_left _ (g.S.Source.left c.loop-self.source) _ c.args.self.now.pending c.loop-self.self.pending c.fill.new.self.pending begun next c.loop-self.invariant.content
-    (c.take_part.ensures.open c.loop-self-test.true) filled.bytes.0 (sym filled.bytes.1 ∙ c.if-branch-eq0.true) (filled.end (ap (λ n. Ok n) c.if-branch-eq0.true)) last
+    let left = g.S.Source.left in
+    let longer = c.take_part.ensures.open c.loop-self-test.true in
+    let same = filled.rest.1 in
+    record {
+      begun = begun-on (left c.args.source.now) (left c.loop-self.source) (left c.fill.new.source) c.args.self.now.pending c.loop-self.self.pending c.fill.new.self.pending _ _
+          c.loop-self.invariant.begun (subst (λ (text : List ℕ). LengthensLine (heard c.loop-self.line c.loop-self.self.text) c.loop-self.self.pending (heard c.take_part.new.line text)) (sym same) longer) filled.bytes.0;
+      passed = inr (elim c.loop-self.invariant.passed [ inl first ↦ ap newlines (sym first) ∙ longer.is_part | inr none ↦ none ]);
+      took = takes-on (left c.args.source.now) (left c.loop-self.source) (left c.fill.new.source) c.fill.new.self.pending _ c.loop-self.self.taken c.fill.new.self.taken
+          c.loop-self.invariant.took filled.bytes.0 (filled.taken ∙ ap (λ n. n + length c.fill.new.self.pending) c.take_part.ensures.counts.0);
+      no_text = λ is. same ∙ c.take_part.ensures.too_long is;
+      progress = search rules;
+      limit = search rules;
+      within = search rules;
+      never_falls = search rules;
+      kept = search rules;
+    }
+
+pub returns-clause-line : goal.returns-clause-line
+returns-clause-line g c =
+    first-ended (g.S.Source.left c.args.source.now) (g.S.Source.left c.loop-self.source) c.args.self.now.pending c.loop-self.self.pending c.take_part.new.self.pending _ _
+    c.loop-self.invariant.begun (c.take_part.ensures.ended c.loop-self-test.false)
+
+pub returns-then-branch-eq0-clause-line : goal.returns-then-branch-eq0-clause-line
+returns-then-branch-eq0-clause-line g c =
+    let filled = c.in_ok-fill.ensures in
+    let left = g.S.Source.left in
+    let longer = c.take_part.ensures.open c.loop-self-test.true in
+    let same = filled.rest.1 in
+    if_ok c.last.result c.take_part.new.line _ (0 < at_least (heard c.take_part.new.line c.fill.new.self.text)) c.last.ensures.ok c.last.ensures.some (λ some.
+    first-last (left c.args.source.now) (left c.loop-self.source) (left c.fill.new.source) c.args.self.now.pending c.loop-self.self.pending c.fill.new.self.pending _ _
+    c.loop-self.invariant.begun (subst (λ (text : List ℕ). LengthensLine (heard c.loop-self.line c.loop-self.self.text) c.loop-self.self.pending (heard c.take_part.new.line text)) (sym same) longer) filled.bytes.0
+    (sym filled.bytes.1 ∙ c.if-branch-eq0.true) (filled.end (ap (λ n. Ok n) c.if-branch-eq0.true)) some)
+
+pub returns-in_err-fill-clause-none_taken : goal.returns-in_err-fill-clause-none_taken
+returns-in_err-fill-clause-none_taken g c =
+    let left = g.S.Source.left in
+    let longer = c.take_part.ensures.open c.loop-self-test.true in
+    on_err c.from_residual.result _ (no-line (left c.args.source.now) (left c.loop-self.source) (left c.fill.new.source) c.args.self.now.pending c.loop-self.self.pending _ _
+    c.loop-self.invariant.begun longer c.in_err-fill.ensures.err.0)

@@ -1,19 +1,20 @@
--- What was pending and left at the call is heard as the line in progress with what is pending and left now.
-use Rattle.std.proofs.Common.{◌≡◌, ◌+◌, ◌-◌, ◌≤◌, ◌++◌, length}
+-- What was pending and left at the call is the line in progress, and then what is pending and left now.
+use Rattle.std.proofs.Common.{◌≡◌, ◌⊎◌, ◌+◌, ◌-◌, ◌≤◌, ◌++◌, []}
 use Rattle.outside_faults.specs.Told.{IfTold}
-use Rattle.line_link.specs.Lines.{heard_lines}
-use Rattle.line_link.specs.Heard.{heard}
-use Rattle.line_link.specs.Begun.{heard_on, at_least}
-use Rattle.line_link.specs.Reading.{unread}
+use Rattle.line_link.specs.LineReader.{heard, at_least, untold, Takes}
+use Rattle.line_link.specs.Lines.{newlines}
+use Rattle.line_link.specs.declared.line_reader.Line.TheVariants.{TooLong}
+use Rattle.line_link.proofs.Begun.{HasBegun}
 use Rattle.line_link.proofs.line_reader.LineReader.next.Given as goal
 
 abbrev pub invariant-loop-self : goal.invariant-loop-self
 invariant-loop-self g l = record {
-  content : IfTold (g.S.Source.left l.fn.source) (g.S.Source.left l.source) (λ before after.
-      heard_lines (l.fn.self.pending ++ before) ≡ heard_on (heard l.line l.self.text) (l.self.pending ++ after));
-  counted : IfTold (g.S.Source.left l.fn.source) (g.S.Source.left l.source) (λ before after.
-      l.self.taken + length after ≡ l.fn.self.taken + length before);
-  progress : unread l.self + at_least (heard l.line l.self.text) ≤ unread l.fn.self;
+  begun : IfTold (g.S.Source.left l.fn.source) (g.S.Source.left l.source) (λ before after.
+      HasBegun (l.fn.self.pending ++ before) (heard l.line l.self.text) (l.self.pending ++ after));
+  passed : (l.self.pending ≡ l.fn.self.pending) ⊎ (newlines l.fn.self.pending ≡ 0);
+  took : IfTold (g.S.Source.left l.fn.source) (g.S.Source.left l.source) (Takes l.fn.self.taken l.self.taken);
+  no_text : l.line ≡ TooLong → l.self.text ≡ [];
+  progress : untold l.self + at_least (heard l.line l.self.text) ≤ untold l.fn.self;
   limit : l.self.limit ≡ l.fn.self.limit;
   within : l.self.taken ≤ l.self.limit;
   never_falls : g.S.Source.read_faults l.fn.source ≤ g.S.Source.read_faults l.source;

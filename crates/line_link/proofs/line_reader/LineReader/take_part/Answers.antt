@@ -1,7 +1,8 @@
 -- What is pending up to its newline belongs to the line that has begun, and so does all of it where it has no newline.
-use Rattle.std.proofs.Common.{◌≡◌, ◌≤◌, ◌+◌, ◌-◌, ℕ, List, take, drop, sym, ap, ◌∙◌, arith, length-take}
+use Rattle.std.proofs.Common.{◌≡◌, ◌≤◌, ◌+◌, ◌-◌, ℕ, List, ◌∷◌, ◌++◌, take, drop, sym, ap, ◌∙◌, arith, length-take}
 use Rattle.std.proofs.lemmas.List.{drop-drop, drop-take}
-use Rattle.line_link.proofs.Begun.{GoesOn-part, Ends-newline}
+use Rattle.line_link.specs.declared.line_reader.TheConstants.{NEWLINE}
+use Rattle.line_link.proofs.Begun.{newlines-nowhere, newlines-before, split-newline}
 use Rattle.line_link.proofs.line_reader.LineReader.take_part.Goals as goal
 
 -- what is pending after a byte is taken
@@ -17,14 +18,21 @@ after_byte items start end at within =
 pub returns-in_default-clause-open : goal.returns-in_default-clause-open
 returns-in_default-clause-open c =
     let none = rw c.deref.ensures.value at c.in_default.ensures in
-    let is = rw c.deref.ensures.value at c.extended.ensures.value in
-    rw (← c.self.view_is) (λ _. GoesOn-part c.args.line.now _ _ _ (omega (arith, c.self.inside.line.ok.0)) none is)
+    let longer = rw c.deref.ensures.value at c.extended.ensures.value in
+    rw (← c.self.view_is) (λ _. record { is_part = newlines-nowhere _ none; longer = longer })
 
 pub returns-clause-ended : goal.returns-clause-ended
 returns-clause-ended c =
     let found = rw c.deref.ensures.value at c.in-Some.ensures in
-    let is = rw c.deref.ensures.value at c.extended-2.ensures.value in
+    let whole = rw c.deref.ensures.value at c.extended-2.ensures.value in
     let inside = c.self.inside in
+    let at = c.in-Some.at in
+    let pending = take (inside.end - inside.start) (drop inside.start inside.piece.items) in
     let high = found.0.high in
-    let left = after_byte inside.piece.items inside.start inside.end c.in-Some.at (omega (arith, length-take (inside.end - inside.start) (drop inside.start inside.piece.items))) in
-    rw (← c.self.view_is) (λ _. Ends-newline c.args.line.now inside.line.items _ c.in-Some.at _ _ (omega (arith, inside.line.ok.0)) high found.0.before found.1 is left)
+    let left = after_byte inside.piece.items inside.start inside.end at (omega (arith, length-take (inside.end - inside.start) (drop inside.start inside.piece.items))) in
+    rw (← c.self.view_is) (λ _. record {
+      part = take at pending;
+      is_part = newlines-before pending at (omega arith) found.0.before;
+      split = split-newline pending at high found.1 ∙ ap (λ l. take at pending ++ NEWLINE ∷ l) (sym left);
+      whole = whole;
+    })
