@@ -21,7 +21,7 @@ taken-cut len bytes = record {
 length-grown : (end : ℕ) (bytes : List ℕ) → length (grown end bytes) ≡ max (length bytes) end
 length-grown end bytes = omega (arith, length-append bytes (replicate (end - length bytes) 0), length-replicate {A = ℕ} (end - length bytes) 0)
 
-length-overlaid : (place : ℕ) (written bytes : List ℕ) → length (overlaid place written bytes) ≡ max (length bytes) (place + length written)
+pub length-overlaid : (place : ℕ) (written bytes : List ℕ) → length (overlaid place written bytes) ≡ max (length bytes) (place + length written)
 length-overlaid place written bytes =
     let g : List ℕ = grown (place + length written) bytes in
     omega (arith, length-append (take place g ++ written) (drop (place + length written) g), length-append (take place g) written, length-take place g, length-drop (place + length written) g, length-grown (place + length written) bytes)

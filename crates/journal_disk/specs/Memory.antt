@@ -1,6 +1,6 @@
 -- A disk in memory, by the calls that were made of it, the newest first.
-use Rattle.std.specs.Prelude.{◌≡◌, ◌⊎◌, ℕ, ◌≤◌, true, false, List, [], ◌∷◌, length, take}
-use Rattle.outside_faults.specs.Script.{Script}
+use Rattle.std.specs.Prelude.{◌≡◌, ◌⊎◌, ℕ, ◌≤◌, true, false, List, [], ◌∷◌, length, take, Contains, Result, IsErr}
+use Rattle.outside_faults.specs.Script.{FailingCallsView}
 use Rattle.journal_disk.specs.Drive.{Drive}
 use Rattle.journal_disk.specs.Images.{IsTorn, IsCut, overlaid}
 use Rattle.journal_disk.specs.declared.call.Call.{Call}
@@ -39,12 +39,24 @@ abbrev pub ImageSince : List ℕ → List Call → ℕ → List ℕ → Type 0
 ImageSince first [] moment image = image ≡ first
 ImageSince first (call ∷ calls) moment image = Image first (call ∷ calls) image ⊎ ((moment ≤ length calls) × ImageSince first calls moment image)
 
+-- among these images there is one of this length
+abbrev pub HasLength : ℕ → List (List ℕ) → Type 0
+HasLength len images = (image : List ℕ) × Contains images image × (length image ≡ len)
+
+-- among these images is each front of some bytes that is at least so long
+abbrev pub HasFronts : ℕ → List ℕ → List (List ℕ) → Type 0
+HasFronts least bytes images = (len : ℕ) → least ≤ len → len ≤ length bytes → Contains images (take len bytes)
+
 -- what contracts see of a disk in memory: its first bytes, its calls, how often one failed, and those that are to fail
-pub record Content : Type 0 where
+pub record MemoryDiskView : Type 0 where
   pub first : List ℕ
   pub calls : List Call
   pub faults : ℕ
-  pub script : Script
+  pub script : FailingCallsView
+
+-- a call was noted in front of the others; or none was, for want of memory, and the call failed
+abbrev pub IsNoted : {T E : Type 0} → Call → Result T E → MemoryDiskView → MemoryDiskView → Type 0
+IsNoted call result old new = (new.first ≡ old.first) × ((new.calls ≡ call ∷ old.calls) ⊎ ((new.calls ≡ old.calls) × IsErr result))
 
 -- a disk of these first bytes and these calls
 abbrev pub drive_at : List ℕ → List Call → ℕ → Drive
@@ -57,5 +69,5 @@ drive_at first calls faults = record {
   honest = true;
 }
 
-abbrev pub drive_of : Content → Drive
+abbrev pub drive_of : MemoryDiskView → Drive
 drive_of c = drive_at c.first c.calls c.faults

@@ -1,4 +1,4 @@
-ghost use Rattle.std.specs.Prelude.{ℕ, ◌≤◌, length, IfOk};
+ghost use Rattle.std.specs.Prelude.{ℕ, ◌+◌, ◌≤◌, length, IfOk};
 ghost use Rattle.outside_faults.specs.Faults.{HasCause};
 ghost use Rattle.journal_disk.specs.Drive.{Drive, IsDrive, Honestly};
 ghost use Rattle.journal_disk.specs.Steps.{GoesOn, Leaves, Reads, Writes, Cuts, Syncs};
@@ -23,6 +23,7 @@ pub trait Disk {
     fn read(&mut self, at: u64, into: &mut [u8]) -> Result<usize, Failed>
         ensures cause { HasCause (drive self.old).faults (drive self.new).faults result }
         ensures goes_on { GoesOn (drive self.old) (drive self.new) }
+        ensures one_moment { (drive self.new).moment ≤ (drive self.old).moment + 1 }
         ensures within { IfOk result (λ n. n ≤ length into.old) }
         ensures bytes { Honestly (drive self.old) (Reads at result (drive self.old).bytes into.old into.new) }
         ensures leaves { Honestly (drive self.old) (Leaves (drive self.old) (drive self.new)) };
@@ -31,17 +32,20 @@ pub trait Disk {
     fn write_at(&mut self, at: u64, bytes: &[u8]) -> Result<(), Failed>
         ensures cause { HasCause (drive self.old).faults (drive self.new).faults result }
         ensures goes_on { GoesOn (drive self.old) (drive self.new) }
+        ensures one_moment { (drive self.new).moment ≤ (drive self.old).moment + 1 }
         ensures writes { Honestly (drive self.old) (Writes at bytes.now result (drive self.old) (drive self.new)) };
 
     /// Leaves a front of this length, or all where there is less. Where it fails any part of it may have happened.
     fn cut(&mut self, len: u64) -> Result<(), Failed>
         ensures cause { HasCause (drive self.old).faults (drive self.new).faults result }
         ensures goes_on { GoesOn (drive self.old) (drive self.new) }
+        ensures one_moment { (drive self.new).moment ≤ (drive self.old).moment + 1 }
         ensures cuts { Honestly (drive self.old) (Cuts len result (drive self.old) (drive self.new)) };
 
     /// Makes what a read gives stay.
     fn sync(&mut self) -> Result<(), Failed>
         ensures cause { HasCause (drive self.old).faults (drive self.new).faults result }
         ensures goes_on { GoesOn (drive self.old) (drive self.new) }
+        ensures one_moment { (drive self.new).moment ≤ (drive self.old).moment + 1 }
         ensures syncs { Honestly (drive self.old) (Syncs result (drive self.old) (drive self.new)) };
 }

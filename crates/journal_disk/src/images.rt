@@ -1,84 +1,107 @@
 ghost use Rattle.std.specs.Prelude.{◌≡◌, ℕ, ◌+◌, ◌^◌, ◌≤◌, ◌<◌, [], ◌∷◌, List, length, take, get_or, slice_get, min, max, Some, All, Contains, IfOk};
-ghost use Rattle.journal_disk.specs.Images.{IsTorn, IsCut};
-ghost use Rattle.journal_disk.specs.Memory.{contents, stored, Image};
+ghost use Rattle.journal_disk.specs.Images.{IsTorn, IsCut, overlaid};
+ghost use Rattle.journal_disk.specs.Memory.{contents, stored, Image, HasLength, HasFronts};
 
 use crate::call::Call;
 use crate::changed::{front, overlaid};
 use condition_sets::{ListOf, NoMemory};
 use std::alloc::Global;
 
-/// What stands where an image may have any bytes: the old bytes, the new ones, all zeros or all ones.
+/// What stands where an image may have any bytes, beside the new ones: the old bytes, all zeros or all ones.
 #[derive(Clone, Copy)]
 enum Fill {
     Old,
-    New,
     Zeros,
     Ones,
 }
 
-/// An image with any part of a write: of this length, and filled so where it may have any bytes.
+/// An image with any part of a write of so many bytes: of this length, and filled so where it may have any bytes.
 fn torn(
     alloc: Global,
     before: &[u8],
     at: usize,
-    written: &[u8],
+    count: usize,
     len: usize,
     fill: Fill,
 ) -> Result<ListOf<u8>, NoMemory>
     requires at_least { length before.now ≤ len }
-    requires at_most { len ≤ max (length before.now) (at + length written.now) }
-    requires end { at + length written.now < 2 ^ 64 }
+    requires at_most { len ≤ max (length before.now) (at + count) }
+    requires end { at + count < 2 ^ 64 }
 
-    ensures { IfOk result (IsTorn at (length written.now) before.now) }
+    ensures { IfOk result (IsTorn at count before.now) }
 {
     let mut image = Vec::new(alloc);
     for place in 0..len {
-        let byte = torn_byte(before, at, written, place, fill);
+        let byte = torn_byte(before, at, count, place, fill);
         image.push(byte)?;
     }
     Ok(ListOf::of(image))
 }
 
 /// The byte at a place of such an image.
-fn torn_byte(before: &[u8], at: usize, written: &[u8], place: usize, fill: Fill) -> u8
-    requires { at + length written.now < 2 ^ 64 }
+fn torn_byte(before: &[u8], at: usize, count: usize, place: usize, fill: Fill) -> u8
+    requires { at + count < 2 ^ 64 }
 
     ensures below { place < at → place < length before.now → result ≡ get_or before.now place 0 }
-    ensures above { at + length written.now ≤ place → place < length before.now → result ≡ get_or before.now place 0 }
+    ensures above { at + count ≤ place → place < length before.now → result ≡ get_or before.now place 0 }
 {
     let old = match before.get(place) {
         Some(byte) => *byte,
         None => 0,
     };
-    if place < at || place >= at + written.len() {
+    if place < at || place >= at + count {
         return old;
     }
     match fill {
         Fill::Old => old,
-        Fill::New => written[place - at],
         Fill::Zeros => 0,
         Fill::Ones => 255,
     }
 }
 
-/// Images with any part of a write, of each length that they may have. The first is the image as it was.
+/// Images of one length with any part of a write of so many bytes, the whole of which makes the image `whole`: with
+/// the old bytes, the new ones, all zeros and all ones.
+fn torn_of_length(
+    alloc: Global,
+    before: &[u8],
+    whole: &[u8],
+    at: usize,
+    count: usize,
+    len: usize,
+) -> Result<Vec<ListOf<u8>>, NoMemory>
+    requires at_least { length before.now ≤ len }
+    requires at_most { len ≤ length whole.now }
+    requires end { at + count < 2 ^ 64 }
+    requires whole { IsTorn at count before.now whole.now }
+
+    ensures all { IfOk result (λ images. All (IsTorn at count before.now) images.items) }
+    ensures front { IfOk result (λ images. Contains images.items (take len whole.now)) }
+{
+    let mut images = Vec::new(alloc);
+    images.push(torn(alloc, before, at, count, len, Fill::Old)?)?;
+    images.push(ListOf::of(Vec::from_slice(alloc, &whole[..len])?))?;
+    images.push(torn(alloc, before, at, count, len, Fill::Zeros)?)?;
+    images.push(torn(alloc, before, at, count, len, Fill::Ones)?)?;
+    Ok(images)
+}
+
+/// Images with any part of a write, of each length that they may have, the whole of it among them. The first is the
+/// image as it was.
 fn torn_each(
     alloc: Global,
     before: &[u8],
-    at: usize,
+    at: u64,
     written: &[u8],
 ) -> Result<Vec<ListOf<u8>>, NoMemory>
-    requires { at + length written.now + 1 < 2 ^ 64 }
-
     ensures all { IfOk result (λ images. All (IsTorn at (length written.now) before.now) images.items) }
     ensures first { IfOk result (λ images. slice_get images.items 0 ≡ Some before.now) }
+    ensures fronts { IfOk result (λ images. HasFronts (length before.now) (overlaid at written.now before.now) images.items) }
 {
-    let longest = before.len().max(at + written.len());
+    let whole = overlaid(alloc, before, at, written)?;
     let mut images = one(alloc, Vec::from_slice(alloc, before)?)?;
-    for len in before.len()..longest + 1 {
-        for fill in [Fill::Old, Fill::New, Fill::Zeros, Fill::Ones] {
-            images.push(torn(alloc, before, at, written, len, fill)?)?;
-        }
+    for len in before.len()..whole.len() + 1 {
+        let mut torn = torn_of_length(alloc, before, &whole, at as usize, written.len(), len)?;
+        images.append(&mut torn)?;
     }
     Ok(images)
 }
@@ -87,6 +110,7 @@ fn torn_each(
 fn cut_each(alloc: Global, before: &[u8], len: u64) -> Result<Vec<ListOf<u8>>, NoMemory>
     ensures all { IfOk result (λ images. All (IsCut len before.now) images.items) }
     ensures first { IfOk result (λ images. slice_get images.items 0 ≡ Some before.now) }
+    ensures fronts { IfOk result (λ images. HasFronts (min len (length before.now)) before.now images.items) }
 {
     let shortest = before.len().min(len as usize);
     let mut images = one(alloc, Vec::from_slice(alloc, before)?)?;
@@ -105,15 +129,12 @@ fn torn_all(
 ) -> Result<Vec<ListOf<u8>>, NoMemory>
     ensures all { IfOk result (λ after. All (λ image. (before : List ℕ) × Contains images.now before × IsTorn at (length written.now) before image) after.items) }
     ensures first { IfOk result (λ after. slice_get after.items 0 ≡ slice_get images.now 0) }
+    ensures same { IfOk result (λ after. All (Contains after.items) images.now) }
+    ensures fronts { IfOk result (λ after. All (λ before. HasFronts (length before) (overlaid at written.now before) after.items) images.now) }
 {
-    let place = at as usize;
-    let end = place.checked_add(written.len()).ok_or(NoMemory)?;
-    if end == usize::MAX {
-        return Err(NoMemory);
-    }
     let mut after = Vec::new(alloc);
     for before in images {
-        let mut each = torn_each(alloc, before.as_slice(), place, written)?;
+        let mut each = torn_each(alloc, before.as_slice(), at, written)?;
         after.append(&mut each)?;
     }
     Ok(after)
@@ -123,6 +144,7 @@ fn torn_all(
 fn cut_all(alloc: Global, images: &[ListOf<u8>], len: u64) -> Result<Vec<ListOf<u8>>, NoMemory>
     ensures all { IfOk result (λ after. All (λ image. (before : List ℕ) × Contains images.now before × IsCut len before image) after.items) }
     ensures first { IfOk result (λ after. slice_get after.items 0 ≡ slice_get images.now 0) }
+    ensures fronts { IfOk result (λ after. All (λ before. HasFronts (min len (length before)) before after.items) images.now) }
 {
     let mut after = Vec::new(alloc);
     for before in images {
@@ -151,8 +173,9 @@ fn contents(alloc: Global, first: &[u8], calls: &[Call]) -> Result<Vec<u8>, NoMe
     }
 }
 
-/// Images that a crash after calls may leave, the newest call first; the first image is what was stored last. Where
-/// an image may have any bytes these are the old ones, the new ones, all zeros and all ones.
+/// Images that a crash after calls may leave, the newest call first; the first image is what was stored last, what a
+/// read gives is among them, and of each length that an image may have there is one. Where an image may have any bytes
+/// these are the old ones, the new ones, all zeros and all ones.
 pub(crate) fn images(
     alloc: Global,
     first: &[u8],
@@ -160,6 +183,8 @@ pub(crate) fn images(
 ) -> Result<Vec<ListOf<u8>>, NoMemory>
     ensures all { IfOk result (λ images. All (Image first.now calls.now) images.items) }
     ensures first { IfOk result (λ images. slice_get images.items 0 ≡ Some (stored first.now calls.now)) }
+    ensures contents { IfOk result (λ images. Contains images.items (contents first.now calls.now)) }
+    ensures lengths { IfOk result (λ images. (image : List ℕ) → Image first.now calls.now image → HasLength (length image) images.items) }
 {
     let Some((call, older)) = calls.split_first() else {
         return one(alloc, Vec::from_slice(alloc, first)?);

@@ -12,6 +12,3 @@ pub use call::Call;
 pub use disk::Disk;
 pub use memory_disk::MemoryDisk;
 pub use synced::{cut_and_sync, write_and_sync};
-
-#[cfg(test)]
-mod tests;

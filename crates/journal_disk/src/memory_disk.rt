@@ -1,7 +1,10 @@
-ghost use Rattle.std.specs.Prelude.{◌≡◌, ℕ, ◌+◌, ◌≤◌, ◌<◌, [], ◌∷◌, ◌++◌, List, length, take, drop, slice_get, Some, All, IfOk, OnOk, OnErr};
+ghost use Rattle.std.specs.Prelude.{◌≡◌, ℕ, ◌+◌, ◌≤◌, ◌<◌, [], ◌∷◌, ◌++◌, List, length, take, drop, slice_get, Some, All, Contains, IfOk, IsErr, OnOk, OnErr, is_ok};
+ghost use Rattle.outside_faults.specs.Faults.{HasCause};
 ghost use Rattle.outside_faults.specs.Script.{raised_calls};
+ghost use Rattle.journal_disk.specs.Drive.{Honestly};
+ghost use Rattle.journal_disk.specs.Steps.{GoesOn, Leaves, Reads, Writes, Cuts, Syncs};
 ghost use Rattle.journal_disk.specs.Images.{overlaid};
-ghost use Rattle.journal_disk.specs.Memory.{Content, contents, stored, Image, drive_of};
+ghost use Rattle.journal_disk.specs.Memory.{contents, stored, Image, HasLength, IsNoted, drive_of};
 ghost use Rattle.journal_disk.specs.MemoryLaws.{memory-is_drive};
 ghost use Rattle.journal_disk.specs.declared.call.Call.TheVariants.{Read, Write, Cut, Sync};
 
@@ -29,9 +32,9 @@ pub struct MemoryDisk {
 
 impl Model for MemoryDisk {
     ghost use Rattle.std.specs.Prelude.{◌≡◌};
-    ghost use Rattle.journal_disk.specs.Memory.{Content, contents};
+    ghost use Rattle.journal_disk.specs.Memory.{MemoryDiskView, contents};
 
-    ghost Value = { Content };
+    ghost Value = { MemoryDiskView };
 
     ghost view = { λ d. record { first = d.first.items; calls = d.calls.items; faults = d.faults; script = d.failing } };
 
@@ -67,11 +70,14 @@ impl MemoryDisk {
         self.bytes.as_slice()
     }
 
-    /// Images that a crash now may leave; the first is what was stored last. Where an image may have any bytes
-    /// these are the old ones, the new ones, all zeros and all ones; it may have others.
+    /// Images that a crash now may leave; the first is what was stored last, what a read gives is among them, and of each
+    /// length that an image may have there is one. Where an image may have any bytes these are the old ones, the new
+    /// ones, all zeros and all ones; it may have others.
     pub fn images(&self) -> Result<Vec<ListOf<u8>>, NoMemory>
         ensures all { IfOk result (λ images. All (Image self.now.first self.now.calls) images.items) }
         ensures first { IfOk result (λ images. slice_get images.items 0 ≡ Some (stored self.now.first self.now.calls)) }
+        ensures contents { IfOk result (λ images. Contains images.items (contents self.now.first self.now.calls)) }
+        ensures lengths { IfOk result (λ images. (image : List ℕ) → Image self.now.first self.now.calls image → HasLength (length image) images.items) }
     {
         images(self.alloc, &self.first, &self.calls)
     }
@@ -143,7 +149,19 @@ impl Disk for MemoryDisk {
 
     ghost is_drive = { memory-is_drive };
 
-    fn read(&mut self, at: u64, into: &mut [u8]) -> Result<usize, Failed> {
+    fn read(&mut self, at: u64, into: &mut [u8]) -> Result<usize, Failed>
+        ensures cause { HasCause self.old.faults self.new.faults result }
+        ensures goes_on { GoesOn (drive_of self.old) (drive_of self.new) }
+        ensures one_moment { (drive_of self.new).moment ≤ (drive_of self.old).moment + 1 }
+        ensures within { IfOk result (λ n. n ≤ length into.old) }
+        ensures bytes { Honestly (drive_of self.old) (Reads at result (drive_of self.old).bytes into.old into.new) }
+        ensures leaves { Honestly (drive_of self.old) (Leaves (drive_of self.old) (drive_of self.new)) }
+
+        // It fails at the calls that are to fail, and may fail for want of memory beside that. Each call is noted.
+        ensures scripted { Contains self.old.script.failing self.new.script.made → IsErr result }
+        ensures script { self.new.script ≡ raised_calls self.old.script }
+        ensures noted { IsNoted (Read at (length into.old) (is_ok result)) result self.old self.new }
+    {
         let ok = !self.failing.next_fails();
         let call = Call::Read {
             at,
@@ -157,7 +175,17 @@ impl Disk for MemoryDisk {
         }
     }
 
-    fn write_at(&mut self, at: u64, bytes: &[u8]) -> Result<(), Failed> {
+    fn write_at(&mut self, at: u64, bytes: &[u8]) -> Result<(), Failed>
+        ensures cause { HasCause self.old.faults self.new.faults result }
+        ensures goes_on { GoesOn (drive_of self.old) (drive_of self.new) }
+        ensures one_moment { (drive_of self.new).moment ≤ (drive_of self.old).moment + 1 }
+        ensures writes { Honestly (drive_of self.old) (Writes at bytes.now result (drive_of self.old) (drive_of self.new)) }
+
+        // It fails at the calls that are to fail, and may fail for want of memory beside that. Each call is noted.
+        ensures scripted { Contains self.old.script.failing self.new.script.made → IsErr result }
+        ensures script { self.new.script ≡ raised_calls self.old.script }
+        ensures noted { IsNoted (Write at bytes.now (is_ok result)) result self.old self.new }
+    {
         let ok = !self.failing.next_fails();
         match self.keep_write(at, bytes, ok) {
             Ok(()) if ok => Ok(()),
@@ -166,7 +194,17 @@ impl Disk for MemoryDisk {
         }
     }
 
-    fn cut(&mut self, len: u64) -> Result<(), Failed> {
+    fn cut(&mut self, len: u64) -> Result<(), Failed>
+        ensures cause { HasCause self.old.faults self.new.faults result }
+        ensures goes_on { GoesOn (drive_of self.old) (drive_of self.new) }
+        ensures one_moment { (drive_of self.new).moment ≤ (drive_of self.old).moment + 1 }
+        ensures cuts { Honestly (drive_of self.old) (Cuts len result (drive_of self.old) (drive_of self.new)) }
+
+        // It fails at the calls that are to fail, and may fail for want of memory beside that. Each call is noted.
+        ensures scripted { Contains self.old.script.failing self.new.script.made → IsErr result }
+        ensures script { self.new.script ≡ raised_calls self.old.script }
+        ensures noted { IsNoted (Cut len (is_ok result)) result self.old self.new }
+    {
         let ok = !self.failing.next_fails();
         match self.keep_cut(len, ok) {
             Ok(()) if ok => Ok(()),
@@ -175,7 +213,17 @@ impl Disk for MemoryDisk {
         }
     }
 
-    fn sync(&mut self) -> Result<(), Failed> {
+    fn sync(&mut self) -> Result<(), Failed>
+        ensures cause { HasCause self.old.faults self.new.faults result }
+        ensures goes_on { GoesOn (drive_of self.old) (drive_of self.new) }
+        ensures one_moment { (drive_of self.new).moment ≤ (drive_of self.old).moment + 1 }
+        ensures syncs { Honestly (drive_of self.old) (Syncs result (drive_of self.old) (drive_of self.new)) }
+
+        // It fails at the calls that are to fail, and may fail for want of memory beside that. Each call is noted.
+        ensures scripted { Contains self.old.script.failing self.new.script.made → IsErr result }
+        ensures script { self.new.script ≡ raised_calls self.old.script }
+        ensures noted { IsNoted (Sync (is_ok result)) result self.old self.new }
+    {
         let ok = !self.failing.next_fails();
         match self.note(Call::Sync { ok }) {
             Ok(()) if ok => Ok(()),

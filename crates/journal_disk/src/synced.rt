@@ -1,4 +1,4 @@
-ghost use Rattle.std.specs.Prelude.{◌≡◌, length, take};
+ghost use Rattle.std.specs.Prelude.{◌≡◌, ◌+◌, ◌≤◌, length, take};
 ghost use Rattle.outside_faults.specs.Faults.{HasCause};
 ghost use Rattle.journal_disk.specs.Drive.{Honestly, IsStored};
 ghost use Rattle.journal_disk.specs.Images.{IsTorn, IsCut, overlaid};
@@ -12,6 +12,7 @@ use outside_faults::Failed;
 pub fn write_and_sync<D: Disk>(disk: &mut D, at: u64, bytes: &[u8]) -> Result<(), Failed>
     ensures cause { HasCause (D.drive disk.old).faults (D.drive disk.new).faults result }
     ensures goes_on { GoesOn (D.drive disk.old) (D.drive disk.new) }
+    ensures two_moments { (D.drive disk.new).moment ≤ (D.drive disk.old).moment + 2 }
     ensures keeps { Honestly (D.drive disk.old) (IsStored (D.drive disk.old)
         → Keeps (IsTorn at (length bytes.now)) (overlaid at bytes.now (D.drive disk.old).bytes) result (D.drive disk.old) (D.drive disk.new)) }
 {
@@ -24,6 +25,7 @@ pub fn write_and_sync<D: Disk>(disk: &mut D, at: u64, bytes: &[u8]) -> Result<()
 pub fn cut_and_sync<D: Disk>(disk: &mut D, len: u64) -> Result<(), Failed>
     ensures cause { HasCause (D.drive disk.old).faults (D.drive disk.new).faults result }
     ensures goes_on { GoesOn (D.drive disk.old) (D.drive disk.new) }
+    ensures two_moments { (D.drive disk.new).moment ≤ (D.drive disk.old).moment + 2 }
     ensures keeps { Honestly (D.drive disk.old) (IsStored (D.drive disk.old)
         → Keeps (IsCut len) (take len (D.drive disk.old).bytes) result (D.drive disk.old) (D.drive disk.new)) }
 {
