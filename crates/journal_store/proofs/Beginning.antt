@@ -6,15 +6,15 @@ use Rattle.std.proofs.Math.Seq.{take-append_seam}
 use Rattle.journal_disk.specs.Drive.{Drive, IsStored}
 use Rattle.journal_disk.specs.Steps.{GoesOn, Leaves}
 use Rattle.journal_store.specs.Format.{header}
-use Rattle.journal_store.specs.FormatLaws.{length-header}
+use Rattle.journal_store.proofs.FormatLaws.{length-header}
 use Rattle.journal_store.specs.Found.{StandsAs}
-use Rattle.journal_store.specs.MakeLaws.{empty_bytes}
-use Rattle.journal_store.specs.Opening.{Begins, IsHead, Opened}
+use Rattle.journal_store.specs.Format.{empty_bytes}
+use Rattle.journal_store.specs.Opening.{Begins, IsHead, HasOpened}
 use Rattle.journal_store.specs.declared.opening.Head.{Head}
 use Rattle.journal_store.specs.declared.opening.Head.TheVariants.{Short, Header, Other}
-use Rattle.journal_store.specs.Reading.{Unread, IsFrontOf}
+use Rattle.journal_store.specs.Reader.{Unread, IsFrontOf}
 use Rattle.journal_store.specs.Stands.{Stands, IsFresh, Makes}
-use Rattle.journal_store.specs.Unique.{one-list}
+use Rattle.journal_store.proofs.Unique.{one-list}
 use Rattle.journal_store.specs.declared.limits.TheConstants.{VERSION}
 use Rattle.journal_store.proofs.Cutting.{some-first}
 use Rattle.journal_store.proofs.Standing.{stands-first}
@@ -49,7 +49,7 @@ pub fresh : (old middle : Drive) → old.honest ≡ true → Leaves old middle �
 fresh old middle honest leaves goes stored short = record { honest = goes.honest ∙ honest; stored = stored; short = omega (arith, ap length leaves.bytes, short) }
 
 -- the disk has a journal
-pub opened-journal : (old new : Drive) → Leaves old new → IsStored new → 17 < length old.bytes → take 16 old.bytes ≡ header VERSION → Opened old new unread
+pub opened-journal : (old new : Drive) → Leaves old new → IsStored new → 17 < length old.bytes → take 16 old.bytes ≡ header VERSION → HasOpened old new unread
 opened-journal old new leaves stored long begins =
     let first = some-first (drop 16 old.bytes) (omega (arith, long, length-drop 16 old.bytes)) in
     let bytes : new.bytes ≡ header VERSION ++ first.0 ∷ first.1 = leaves.bytes ∙ (sym (take-append-drop 16 old.bytes) ∙ (λ i. begins i ++ first.2 i)) in
@@ -57,7 +57,7 @@ opened-journal old new leaves stored long begins =
     record { stored = stored; opens = inl (long, begins, leaves.bytes); stands = stands-first new.bytes first.1 first.0 16 unread bytes refl window }
 
 -- an empty journal was made, whose gate is in the window
-pub opened-empty : (old new : Drive) → IsStored new → length old.bytes ≤ 17 → new.bytes ≡ empty_bytes → Opened old new (record { place = 16; bytes = 0 ∷ []; is_last = true })
+pub opened-empty : (old new : Drive) → IsStored new → length old.bytes ≤ 17 → new.bytes ≡ empty_bytes → HasOpened old new (record { place = 16; bytes = 0 ∷ []; is_last = true })
 opened-empty old new stored short bytes =
     let w : Unread = record { place = 16; bytes = 0 ∷ []; is_last = true } in
     let window : IsFrontOf new.bytes w = record {

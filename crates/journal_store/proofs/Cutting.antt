@@ -10,8 +10,8 @@ use Rattle.byteorder.specs.Endian.{big_bytes, big_number}
 use Rattle.byteorder.specs.Numbers.{big_number-reads_back, length-bytes_high_first}
 use Rattle.journal_store.specs.Cut.{HasPayloads, HasBatch}
 use Rattle.journal_store.specs.Format.{IsPayload, IsBatch, payload_bytes, body, batch_bytes}
-use Rattle.journal_store.specs.Sized.{length-payload}
-use Rattle.journal_store.specs.Unique.{same-payload, same-body, short-body}
+use Rattle.journal_store.proofs.Sized.{length-payload}
+use Rattle.journal_store.proofs.Unique.{same-payload, same-body, short-body}
 use Rattle.journal_store.proofs.Numbers.{spelt-two, spelt-four}
 
 -- the front of equal bytes, where one part is at least as long as the other

@@ -1,5 +1,5 @@
 -- Batches whose bytes are ready.
-use Rattle.std.proofs.Common.{◌≡◌, ℕ, ◌≤◌, List, [], ◌∷◌, ◌++◌, refl, sym, ◌∙◌, ap, subst, arith, length, drop, append_assoc, append-nil}
+use Rattle.std.proofs.Common.{◌≡◌, ℕ, ◌+◌, ◌≤◌, List, [], ◌∷◌, ◌++◌, refl, sym, ◌∙◌, ap, subst, arith, length, drop, append_assoc, append-nil}
 use Rattle.std.specs.Prelude.{All, Vec, vec_capacity}
 use Rattle.std.specs.declared.alloc.Global.{Global}
 use Rattle.std.proofs.lemmas.Grind.{flat_map-append}
@@ -7,10 +7,10 @@ use Rattle.std.proofs.lemmas.List.Elements.{All-append, All-cons, All-nil}
 use Rattle.std.proofs.Math.Seq.{drop-append_seam}
 use Rattle.byteorder.specs.Endian.{big_bytes}
 use Rattle.byteorder.specs.Numbers.{length-bytes_high_first}
-use Rattle.journal_store.specs.Batches.{payloads_in, read-back, IsReady}
+use Rattle.journal_store.specs.Batches.{payloads_in, IsReady}
+use Rattle.journal_store.proofs.Payloads.{read-back}
 use Rattle.journal_store.specs.Format.{IsPayload, payload_bytes, body, batch_bytes}
-use Rattle.journal_store.specs.declared.batch.TheConstants.{BATCH_BYTES}
-use Rattle.journal_store.specs.declared.limits.TheConstants.{MAX_PAYLOADS}
+use Rattle.journal_store.specs.declared.limits.TheConstants.{MAX_BATCH, MAX_PAYLOADS}
 
 body-more : (ps : List (List ℕ)) (p : List ℕ) → body (ps ++ p ∷ []) ≡ body ps ++ payload_bytes p
 body-more ps p = flat_map-append payload_bytes ps (p ∷ []) ∙ ap (λ (xs : List ℕ). body ps ++ xs) (append-nil (payload_bytes p))
@@ -33,7 +33,7 @@ ready-payloads ps items n fine long is =
     ap (drop 4) (bytes-of ps items is ∙ append_assoc head (body ps) (0 ∷ [])) ∙ (ap (λ (k : ℕ). drop k (head ++ (body ps ++ 0 ∷ []))) (sym four) ∙ drop-append_seam head (body ps ++ 0 ∷ [])) in
     ap (payloads_in n) behind ∙ (ap (λ (k : ℕ). payloads_in k (body ps ++ 0 ∷ [])) (sym long) ∙ read-back ps (0 ∷ []) fine)
 
-pub ready : (ps : List (List ℕ)) (bytes : Vec ℕ Global) (n : ℕ) → All IsPayload ps → length ps ≡ n → n ≤ MAX_PAYLOADS → bytes.items ≡ batch_bytes ps ++ 0 ∷ [] → BATCH_BYTES ≤ vec_capacity bytes → IsReady n bytes
+pub ready : (ps : List (List ℕ)) (bytes : Vec ℕ Global) (n : ℕ) → All IsPayload ps → length ps ≡ n → n ≤ MAX_PAYLOADS → bytes.items ≡ batch_bytes ps ++ 0 ∷ [] → MAX_BATCH + 1 ≤ vec_capacity bytes → IsReady n bytes
 ready ps bytes n fine long few is room =
     let same = ready-payloads ps bytes.items n fine long is in
     record {
@@ -43,7 +43,7 @@ ready ps bytes n fine long few is room =
       room = room;
     }
 
-pub ready-none : (bytes : Vec ℕ Global) → bytes.items ≡ 0 ∷ 0 ∷ 0 ∷ 0 ∷ 0 ∷ [] → BATCH_BYTES ≤ vec_capacity bytes → IsReady 0 bytes
+pub ready-none : (bytes : Vec ℕ Global) → bytes.items ≡ 0 ∷ 0 ∷ 0 ∷ 0 ∷ 0 ∷ [] → MAX_BATCH + 1 ≤ vec_capacity bytes → IsReady 0 bytes
 unfolding batch_bytes
 ready-none bytes is room = ready [] bytes 0 (All-nil IsPayload) refl (omega arith) is room
 

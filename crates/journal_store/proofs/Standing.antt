@@ -1,5 +1,5 @@
 -- Where a reader stands in the bytes, and what each of its steps makes of that.
-use Rattle.std.proofs.Common.{◌≡◌, ℕ, ◌+◌, ◌-◌, ◌≤◌, Bool, true, false, List, [], ◌∷◌, ◌++◌, refl, sym, ◌∙◌, ap, subst, arith, length, drop, length-append, append_assoc, append-nil}
+use Rattle.std.proofs.Common.{inl, inr, ◌≡◌, ℕ, ◌+◌, ◌-◌, ◌<◌, ◌≤◌, Bool, true, false, List, [], ◌∷◌, ◌++◌, refl, sym, ◌∙◌, ap, subst, arith, length, drop, length-append, append_assoc, append-nil}
 use Rattle.std.specs.Prelude.{◌≢◌, All}
 use Rattle.std.proofs.lemmas.List.{length-drop, drop-drop, drop-append-le, drop_at}
 use Rattle.std.proofs.lemmas.List.Concat.{flat_map-cons}
@@ -9,21 +9,22 @@ use Rattle.byteorder.specs.Endian.{big_bytes}
 use Rattle.byteorder.specs.Numbers.{length-bytes_high_first}
 use Rattle.journal_store.specs.Cut.{HasNoBatch, IsGate}
 use Rattle.journal_store.specs.declared.gate.Gate.TheVariants.{Closed, Open, Torn}
-use Rattle.journal_store.specs.Format.{header, IsPayload, IsBatch, payload_bytes, body, batch_bytes, opened, payloads}
-use Rattle.journal_store.specs.FormatLaws.{length-header, opened-more, payloads-more}
+use Rattle.journal_store.specs.Format.{header, IsPayload, IsBatch, payload_bytes, body, batch_bytes, open_gates, payloads}
+use Rattle.journal_store.proofs.FormatLaws.{length-header, opened-more, payloads-more}
 use Rattle.journal_store.specs.Found.{Follows, Ends, Breaks}
-use Rattle.journal_store.specs.Reading.{Unread, IsFrontOf, IsUpTo, StandsIn}
-use Rattle.journal_store.specs.Sized.{length-payload, length-batch, body-within}
-use Rattle.journal_store.specs.Unique.{same-payload, first-byte, later-bytes}
+use Rattle.journal_store.specs.Reader.{Unread, IsFrontOf, IsWhole, IsUpTo, StandsIn}
+use Rattle.journal_store.proofs.FoundLaws.{none-open}
+use Rattle.journal_store.proofs.Sized.{length-payload, length-batch, body-within}
+use Rattle.journal_store.proofs.Unique.{same-payload, first-byte, later-bytes}
 use Rattle.journal_store.specs.declared.limits.TheConstants.{VERSION}
 use Rattle.journal_store.proofs.Cutting.{longer-front}
 
 -- all that stands before the gate
 abbrev pub front : List (List (List ℕ)) → List ℕ
-front batches = header VERSION ++ opened batches
+front batches = header VERSION ++ open_gates batches
 
 front-more : (batches : List (List (List ℕ))) (batch : List (List ℕ)) → front (batches ++ batch ∷ []) ≡ front batches ++ (1 ∷ batch_bytes batch)
-front-more batches batch = ap (λ (xs : List ℕ). header VERSION ++ xs) (opened-more batches batch) ∙ sym (append_assoc (header VERSION) (opened batches) (1 ∷ batch_bytes batch))
+front-more batches batch = ap (λ (xs : List ℕ). header VERSION ++ xs) (opened-more batches batch) ∙ sym (append_assoc (header VERSION) (open_gates batches) (1 ∷ batch_bytes batch))
 
 -- the unread bytes go on by some
 pub moved : (image : List ℕ) (w : Unread) (count : ℕ) → count ≤ length w.bytes → IsFrontOf image w → IsFrontOf image (record { place = w.place + count; bytes = drop count w.bytes; is_last = w.is_last })
@@ -161,15 +162,21 @@ torn-on-disk behind beyond rest false none same ends enough = λ batch gate more
     let whole : behind ++ beyond ≡ piece ++ more = same ∙ (are ∙ sym (append_assoc (batch_bytes batch) (gate ∷ []) more)) in
     none batch gate (drop (length piece) behind) is (longer-front behind piece beyond more whole long ∙ append_assoc (batch_bytes batch) (gate ∷ []) (drop (length piece) behind))
 
-pub gate-torn : (list : List (List ℕ)) (image : List ℕ) (w : Unread) (g : AtGate list image w) → (w.is_last ≡ false → 32902 ≤ length w.bytes) → IsGate Torn w.bytes → Breaks list w.place image
-gate-torn list image w g enough is =
+long-of : (batches : List (List (List ℕ))) (rest image : List ℕ) → IsWhole image → image ≡ header VERSION ++ open_gates batches ++ 1 ∷ rest → 17 < length image
+long-of batches rest image (inl long) are = long
+long-of batches rest image (inr empty) are = absurd (none-open batches rest image are empty)
+
+pub gate-torn : (list : List (List ℕ)) (image : List ℕ) (w : Unread) (g : AtGate list image w) → IsWhole image → (w.is_last ≡ false → 32902 ≤ length w.bytes) → IsGate Torn w.bytes → Breaks list w.place image
+gate-torn list image w g whole enough is =
     let behind = is.0 in
     let both = open-behind list image w g behind is.1 in
+    let are = g.bytes ∙ ap (λ (x : ℕ). front g.batches ++ x ∷ g.rest) both.0 in
     record {
       batches = g.batches;
       rest = g.rest;
       formed = g.formed;
-      bytes = g.bytes ∙ ap (λ (x : ℕ). front g.batches ++ x ∷ g.rest) both.0;
+      bytes = are;
+      long = long-of g.batches g.rest image whole are;
       torn = torn-on-disk behind g.window.beyond g.rest w.is_last is.2 both.1 g.window.last (λ more. omega (arith, enough more, ap length is.1));
       listed = g.listed;
       placed = g.placed;

@@ -5,7 +5,7 @@ use Rattle.std.proofs.lemmas.Bool.Decides.{nat_tests}
 use Rattle.std.proofs.lemmas.List.{drop-take, drop-drop, take-append-drop}
 use Rattle.std.proofs.Math.ListN.{drop_of_length-le}
 use Rattle.std.proofs.Math.Seq.{take-append_seam}
-use Rattle.journal_store.specs.Reading.{IsFrontOf}
+use Rattle.journal_store.specs.Reader.{IsFrontOf}
 use Rattle.journal_store.specs.declared.window.TheConstants.{WINDOW_BYTES}
 
 pub skipped : (buffer : List ℕ) (start end count : ℕ) → start + count ≤ end

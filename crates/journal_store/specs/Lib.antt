@@ -1,16 +1,9 @@
-pub mod AppendLaws
 pub mod Batches
 pub mod Cut
 pub mod Format
-pub mod FormatLaws
 pub mod Found
-pub mod FoundLaws
 pub mod Journal
-pub mod MakeLaws
 pub mod Opening
-pub mod Reading
-pub mod Sized
+pub mod Reader
 pub mod Stands
-pub mod TornLaws
-pub mod Unique
 pub mod Window

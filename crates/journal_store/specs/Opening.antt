@@ -1,12 +1,11 @@
 -- What opening a journal leaves.
 use Rattle.std.specs.Prelude.{◌≡◌, ◌≢◌, ◌⊎◌, ℕ, ◌<◌, ◌≤◌, List, [], length, take, false, Result, Ok, Err}
 use Rattle.journal_disk.specs.Drive.{Drive, IsStored, Honestly}
-use Rattle.journal_disk.specs.Steps.{Leaves}
 use Rattle.outside_faults.specs.Faults.{Rose}
 use Rattle.journal_store.specs.Format.{header}
 use Rattle.journal_store.specs.Found.{IsForeign, StandsAs}
-use Rattle.journal_store.specs.MakeLaws.{empty_bytes}
-use Rattle.journal_store.specs.Reading.{Unread, Reading, StandsIn}
+use Rattle.journal_store.specs.Format.{empty_bytes}
+use Rattle.journal_store.specs.Reader.{Unread, ReaderView, StandsIn}
 use Rattle.journal_store.specs.declared.limits.TheConstants.{VERSION}
 use Rattle.journal_store.specs.declared.opening.Head.{Head}
 use Rattle.journal_store.specs.declared.opening.Head.TheVariants.{Short, Header, Other}
@@ -25,10 +24,10 @@ IsHead Short bytes = length bytes ≤ 17
 IsHead Header bytes = (17 < length bytes) × (take 16 bytes ≡ header VERSION)
 IsHead Other bytes = (17 < length bytes) × (take 16 bytes ≢ header VERSION)
 
--- why a disk could not be opened: it failed, or it has no journal and is left as it was
+-- why a disk could not be opened: it failed, or it has no journal
 abbrev pub IsReason : BeginFault → Drive → Drive → Type 0
 IsReason Disk old new = Rose old.faults new.faults
-IsReason NotJournal old new = Honestly old (IsForeign old.bytes × Leaves old new)
+IsReason NotJournal old new = Honestly old (IsForeign old.bytes)
 IsReason Memory old new = ⊥
 
 -- each image, at each moment of the call too, stands for what the bytes stood for
@@ -37,12 +36,12 @@ pub record Begins (old new : Drive) : Type 0 where
   pub since : (moment : ℕ) (image : List ℕ) → moment ≤ old.moment → new.image_since moment image → old.image_since moment image ⊎ StandsAs old.bytes image
 
 -- a journal was opened, of which nothing was told
-pub record Opened (old new : Drive) (unread : Unread) : Type 0 where
+pub record HasOpened (old new : Drive) (unread : Unread) : Type 0 where
   pub stored : IsStored new
   pub opens : Opens old.bytes new.bytes
   pub stands : StandsIn [] new.bytes unread 0 16 false
 
 -- the disk that a call of `begin` gives back, alone or with its reader
-abbrev pub disk_after : {D : Type 0} → Result (Reading D) (BeginFailed D) → D
+abbrev pub disk_after : {D : Type 0} → Result (ReaderView D) (BeginFailed D) → D
 disk_after (Ok reader) = reader.disk
 disk_after (Err failed) = failed.disk

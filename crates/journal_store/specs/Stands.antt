@@ -1,14 +1,14 @@
 -- What list of payloads an image stands for.
 use Rattle.std.specs.Prelude.{◌≡◌, ◌≢◌, ◌⊎◌, ℕ, ◌≤◌, true, List, ◌∷◌, [], ◌++◌, length, All, Result, OnOk, ◌+◌}
 use Rattle.journal_disk.specs.Drive.{Drive, IsStored}
-use Rattle.journal_store.specs.Format.{header, IsBatch, batch_bytes, opened, payloads}
+use Rattle.journal_store.specs.Format.{header, IsBatch, batch_bytes, open_gates, payloads}
 use Rattle.journal_store.specs.declared.limits.TheConstants.{VERSION}
 
 -- the header, open gates each with its batch, a closed gate, and any bytes behind it
 pub record HasGates (batches : List (List (List ℕ))) (gate : ℕ) (rest image : List ℕ) : Type 0 where
   pub formed : All IsBatch batches
   pub closed : gate ≢ 1
-  pub bytes : image ≡ header VERSION ++ opened batches ++ gate ∷ rest
+  pub bytes : image ≡ header VERSION ++ open_gates batches ++ gate ∷ rest
 
 -- An image stands for a list of payloads: at most 17 bytes for the empty one, and a journal for those of its batches.
 abbrev pub Stands : List ℕ → List (List ℕ) → Type 0
@@ -29,7 +29,7 @@ pub record StoresAt (place : ℕ) (list : List (List ℕ)) (drive : Drive) : Typ
   pub stored : IsStored drive
   pub gates : HasGates batches gate rest drive.bytes
   pub listed : list ≡ payloads batches
-  pub placed : place ≡ length (header VERSION ++ opened batches)
+  pub placed : place ≡ length (header VERSION ++ open_gates batches)
 
 -- A batch is put behind a list: at each moment since it began each image stands for the list, or for the list with the
 -- whole batch; and where it succeeded the disk has the longer one stored.

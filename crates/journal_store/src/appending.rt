@@ -1,4 +1,4 @@
-ghost use Rattle.std.specs.Prelude.{◌≡◌, ℕ, ◌+◌, ◌<◌, ◌^◌, List, [], ◌∷◌, ◌++◌};
+ghost use Rattle.std.specs.Prelude.{◌≡◌, ℕ, ◌+◌, ◌<◌, ◌≤◌, ◌^◌, List, [], ◌∷◌, ◌++◌};
 ghost use Rattle.outside_faults.specs.Faults.{HasCause};
 ghost use Rattle.journal_disk.specs.Steps.{GoesOn};
 ghost use Rattle.journal_store.specs.Format.{IsBatch, batch_bytes};
@@ -14,6 +14,7 @@ pub fn append_at<D: Disk>(disk: &mut D, gate: u64, batch: &[u8]) -> Result<(), F
 
     ensures cause { HasCause (D.drive disk.old).faults (D.drive disk.new).faults result }
     ensures goes_on { GoesOn (D.drive disk.old) (D.drive disk.new) }
+    ensures four_moments { (D.drive disk.new).moment ≤ (D.drive disk.old).moment + 4 }
     ensures appends { (list payloads : List (List ℕ)) → StoresAt gate list (D.drive disk.old) → IsBatch payloads → batch.now ≡ batch_bytes payloads ++ 0 ∷ []
         → Appends gate list payloads result (D.drive disk.old) (D.drive disk.new) }
 {

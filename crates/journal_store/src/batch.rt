@@ -1,16 +1,13 @@
 ghost use Rattle.std.specs.Prelude.{◌≡◌, ℕ, ◌+◌, ◌-◌, ◌<◌, ◌≤◌, List, [], ◌∷◌, ◌++◌, length, drop, vec_len, vec_capacity, IfOk, All};
 ghost use Rattle.byteorder.specs.Endian.{big_bytes};
 ghost use Rattle.journal_store.specs.Format.{IsPayload, payload_bytes, batch_bytes};
-ghost use Rattle.journal_store.specs.declared.limits.TheConstants.{MAX_PAYLOAD, MAX_PAYLOADS};
+ghost use Rattle.journal_store.specs.declared.limits.TheConstants.{MAX_BATCH, MAX_PAYLOAD, MAX_PAYLOADS};
 
-use crate::limits::{MAX_PAYLOAD, MAX_PAYLOADS};
+use crate::limits::{MAX_BATCH, MAX_PAYLOAD, MAX_PAYLOADS};
 use byteorder::{BigEndian, ByteOrder};
 use condition_sets::NoMemory;
 use std::alloc::Global;
 use std::marker::Model;
-
-/// The most bytes of a batch with the gate behind it: its length, each payload with its own, and the gate.
-const BATCH_BYTES: usize = 4 + MAX_PAYLOADS * (2 + MAX_PAYLOAD) + 1;
 
 /// Payloads that are stored together. Contracts see the list of them.
 ///
@@ -37,7 +34,7 @@ impl Batch {
     pub fn new(alloc: Global) -> Result<Batch, NoMemory>
         ensures { IfOk result (λ batch. batch ≡ []) }
     {
-        let mut bytes = Vec::with_capacity(alloc, BATCH_BYTES)?;
+        let mut bytes = Vec::with_capacity(alloc, MAX_BATCH + 1)?;
         append(&mut bytes, &[0, 0, 0, 0, 0]);
         Ok(Batch { bytes, count: 0 })
     }
@@ -74,7 +71,7 @@ impl Batch {
         ensures bytes { result.now ≡ batch_bytes self.now ++ 0 ∷ [] }
         ensures payloads { All IsPayload self.now }
         ensures few { length self.now ≤ MAX_PAYLOADS }
-        ensures within { length result.now ≤ BATCH_BYTES }
+        ensures within { length result.now ≤ MAX_BATCH + 1 }
     {
         self.bytes.as_slice()
     }
@@ -84,8 +81,8 @@ impl Batch {
 fn put(bytes: &mut Vec<u8>, payload: &[u8])
     requires some { 5 ≤ vec_len bytes.old }
     requires small { length payload.now ≤ MAX_PAYLOAD }
-    requires most { vec_len bytes.old + 2 + length payload.now ≤ BATCH_BYTES }
-    requires room { BATCH_BYTES ≤ vec_capacity bytes.old }
+    requires most { vec_len bytes.old + 2 + length payload.now ≤ MAX_BATCH + 1 }
+    requires room { MAX_BATCH + 1 ≤ vec_capacity bytes.old }
 
     ensures bytes { (before : List ℕ) → bytes.old.items ≡ big_bytes 4 (length before) ++ before ++ 0 ∷ []
         → bytes.new.items ≡ big_bytes 4 (length (before ++ payload_bytes payload.now)) ++ (before ++ payload_bytes payload.now) ++ 0 ∷ [] }

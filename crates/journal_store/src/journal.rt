@@ -26,9 +26,9 @@ pub struct Journal<D> {
 
 impl<D> Model for Journal<D> {
     ghost use Rattle.std.specs.Prelude.{◌≤◌, ◌+◌, ◌*◌};
-    ghost use Rattle.journal_store.specs.Journal.{Kept};
+    ghost use Rattle.journal_store.specs.Journal.{JournalView};
 
-    ghost Value = { Kept D };
+    ghost Value = { JournalView D };
 
     ghost view = { λ j. record { disk = j.disk; gate = j.gate; count = j.count; broken = j.is_broken } };
 
@@ -50,7 +50,7 @@ impl<D: Disk> Journal<D> {
         }
     }
 
-    /// Puts a batch behind the list: four calls of the disk, and no memory. At each moment since it began each image
+    /// Puts a batch behind the list: at most four calls of the disk, and no memory. At each moment since it began each image
     /// stands for the old list, or for the list with the whole batch. After an error every later append answers so
     /// at once.
     pub fn append(&mut self, batch: &Batch) -> Result<(), DiskFault>
@@ -68,7 +68,9 @@ impl<D: Disk> Journal<D> {
         ensures broken { self.old.broken ≡ true → IsErr result × (self.new ≡ self.old) }
         ensures stays_sound { OnOk result (self.new.broken ≡ false) }
         ensures goes_on { GoesOn (D.drive self.old.disk) (D.drive self.new.disk) }
+        ensures four_moments { (D.drive self.new.disk).moment ≤ (D.drive self.old.disk).moment + 4 }
         ensures count { OnOk result (self.new.count ≡ self.old.count + length batch.now) }
+        ensures not_counted { OnErr result (self.new.count ≡ self.old.count) }
     {
         if self.is_broken {
             return Err(DiskFault);

@@ -23,6 +23,3 @@ pub use journal::{DiskFault, Journal};
 pub use limits::{MAX_PAYLOAD, MAX_PAYLOADS, VERSION};
 pub use outcome::{BeginFailed, BeginFault, Next, NextFault};
 pub use reader::Reader;
-
-#[cfg(test)]
-mod tests;

@@ -1,4 +1,4 @@
-ghost use Rattle.std.specs.Prelude.{◌≡◌, ◌⊎◌, ℕ, ◌+◌, ◌^◌, ◌<◌, ◌≤◌, List, [], true, false, Ok, Err, IfOk, IfErr};
+ghost use Rattle.std.specs.Prelude.{◌≡◌, ◌≢◌, ◌⊎◌, ℕ, ◌+◌, ◌^◌, ◌<◌, ◌≤◌, List, [], length, true, false, Ok, Err, IfOk, IfErr};
 ghost use Rattle.outside_faults.specs.Faults.{Rose};
 ghost use Rattle.journal_disk.specs.Drive.{Honestly, IsStored};
 ghost use Rattle.journal_disk.specs.Steps.{GoesOn, Leaves};
@@ -6,13 +6,13 @@ ghost use Rattle.journal_store.specs.Format.{IsPayload};
 ghost use Rattle.journal_store.specs.Found.{IsForeign, StandsAs};
 ghost use Rattle.journal_store.specs.Journal.{IsOf};
 ghost use Rattle.journal_store.specs.Opening.{Opens, disk_after};
-ghost use Rattle.journal_store.specs.Reading.{Reading, HasTold, Tells, Enters};
+ghost use Rattle.journal_store.specs.Reader.{ReaderView, HasTold, Tells, Enters};
 ghost use Rattle.journal_store.specs.declared.outcome.Next.TheVariants.{Payload, End};
 
 use crate::batch::append;
 use crate::gate::{Gate, gate_of};
 use crate::journal::Journal;
-use crate::limits::{MAX_PAYLOAD, MAX_PAYLOADS};
+use crate::limits::{HEADER_BYTES, MAX_BATCH, MAX_PAYLOAD};
 use crate::opening::open;
 use crate::outcome::{BeginFailed, BeginFault, Next, NextFault};
 use crate::payload::split_payload;
@@ -22,7 +22,7 @@ use std::alloc::Global;
 use std::marker::Model;
 
 /// The most bytes of an open gate, its batch and the gate behind that.
-const MOST_AT_GATE: usize = 1 + 4 + MAX_PAYLOADS * (2 + MAX_PAYLOAD) + 1;
+const MOST_AT_GATE: usize = 1 + MAX_BATCH + 1;
 
 /// A journal that is read payload by payload, before it is appended to. Contracts see the disk, what was read of it and
 /// not yet used, how many payloads wait, the place of their batch's gate, the payload told last, how many were told, and
@@ -39,9 +39,9 @@ pub struct Reader<D> {
 }
 
 impl<D> Model for Reader<D> {
-    ghost use Rattle.journal_store.specs.Reading.{Reading, IsSound};
+    ghost use Rattle.journal_store.specs.Reader.{ReaderView, HasSafeNumbers};
 
-    ghost Value = { Reading D };
+    ghost Value = { ReaderView D };
 
     ghost view = { λ r. record {
       disk = r.disk;
@@ -53,7 +53,7 @@ impl<D> Model for Reader<D> {
       is_ended = r.is_ended;
     } };
 
-    ghost invariant = { λ r. IsSound r.window.place r.waiting r.count r.is_ended r.payload };
+    ghost invariant = { λ r. HasSafeNumbers r.window.place r.waiting r.count r.is_ended r.payload };
 }
 
 impl<D: Disk> Reader<D> {
@@ -65,17 +65,21 @@ impl<D: Disk> Reader<D> {
         ensures fresh { IfOk result (λ reader. reader.count ≡ 0) }
         ensures goes { IfOk result (λ reader. reader.is_ended ≡ false) }
 
-        ensures not_journal { IfErr result (λ failed. failed.why ≡ BeginFault.NotJournal → Honestly (D.drive disk) (IsForeign (D.drive disk).bytes × Leaves (D.drive disk) (D.drive failed.disk))) }
+        ensures not_journal { IfErr result (λ failed. failed.why ≡ BeginFault.NotJournal → Honestly (D.drive disk) (IsForeign (D.drive disk).bytes)) }
         ensures memory { IfErr result (λ failed. failed.why ≡ BeginFault.Memory → failed.disk ≡ disk) }
         ensures cause { IfErr result (λ failed. failed.why ≡ BeginFault.Disk → Rose (D.drive disk).faults (D.drive failed.disk).faults) }
 
+        // A disk of more than 17 bytes is left as it was, whatever the answer.
+        ensures leaves { Honestly (D.drive disk) (17 < length (D.drive disk).bytes → Leaves (D.drive disk) (D.drive (disk_after result))) }
+
         ensures never_falls { (D.drive disk).faults ≤ (D.drive (disk_after result)).faults }
         ensures goes_on { GoesOn (D.drive disk) (D.drive (disk_after result)) }
+        ensures four_moments { (D.drive (disk_after result)).moment ≤ (D.drive disk).moment + 4 }
         ensures image { Honestly (D.drive disk) (IsStored (D.drive disk) → (image : List ℕ) → (D.drive (disk_after result)).image image → StandsAs (D.drive disk).bytes image) }
         ensures since { Honestly (D.drive disk) (IsStored (D.drive disk) → (moment : ℕ) (image : List ℕ) → moment ≤ (D.drive disk).moment
             → (D.drive (disk_after result)).image_since moment image → (D.drive disk).image_since moment image ⊎ StandsAs (D.drive disk).bytes image) }
     {
-        let Ok(mut window) = Window::new(alloc, 16) else {
+        let Ok(mut window) = Window::new(alloc, HEADER_BYTES as u64) else {
             return Err(BeginFailed {
                 why: BeginFault::Memory,
                 disk,
@@ -92,7 +96,7 @@ impl<D: Disk> Reader<D> {
                 disk,
                 window,
                 waiting: 0,
-                place: 16,
+                place: HEADER_BYTES as u64,
                 payload,
                 count: 0,
                 is_ended: false,
@@ -108,7 +112,9 @@ impl<D: Disk> Reader<D> {
         ensures tells { (list : List (List ℕ)) → HasTold D.drive list self.old → Tells D.drive list result self.new }
         ensures payload { result ≡ Ok Payload → IsPayload self.new.payload }
         ensures more { result ≡ Ok Payload → self.new.count ≡ self.old.count + 1 }
-        ensures as_many { result ≡ Ok End → self.new.count ≡ self.old.count }
+        ensures as_many { result ≢ Ok Payload → self.new.count ≡ self.old.count }
+        ensures same_payload { result ≢ Ok Payload → self.new.payload ≡ self.old.payload }
+        ensures same_place { result ≡ Ok End → self.new.place ≡ self.old.place }
         ensures ends { result ≡ Ok End → self.new.is_ended ≡ true }
 
         ensures cause { result ≡ Err NextFault.Disk → Rose (D.drive self.old.disk).faults (D.drive self.new.disk).faults }
@@ -139,7 +145,8 @@ impl<D: Disk> Reader<D> {
         ensures enters { (list : List (List ℕ)) → HasTold D.drive list self.old → Enters D.drive list result self.new }
         ensures some { result ≡ Ok true → 1 ≤ self.new.waiting }
         ensures ends { result ≡ Ok false → self.new.is_ended ≡ true }
-        ensures count { self.new.count ≡ self.old.count }
+        ensures count { (self.new.count ≡ self.old.count) × (self.new.payload ≡ self.old.payload) }
+        ensures place { result ≡ Ok false → self.new.place ≡ self.old.place }
         ensures cause { result ≡ Err NextFault.Disk → Rose (D.drive self.old.disk).faults (D.drive self.new.disk).faults }
         ensures never_falls { (D.drive self.old.disk).faults ≤ (D.drive self.new.disk).faults }
         ensures goes_on { GoesOn (D.drive self.old.disk) (D.drive self.new.disk) }
@@ -173,6 +180,7 @@ impl<D: Disk> Reader<D> {
         ensures tells { (list : List (List ℕ)) → HasTold D.drive list self.old → Tells D.drive list result self.new }
         ensures payload { result ≡ Ok Payload → IsPayload self.new.payload }
         ensures more { result ≡ Ok Payload → self.new.count ≡ self.old.count + 1 }
+        ensures as_many { result ≢ Ok Payload → self.new ≡ self.old }
         ensures goes { result ≡ Ok End → ⊥ }
         ensures sound { result ≡ Err NextFault.Disk → ⊥ }
         ensures disk { self.new.disk ≡ self.old.disk }

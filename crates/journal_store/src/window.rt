@@ -2,7 +2,7 @@ ghost use Rattle.std.specs.Prelude.{◌≡◌, ℕ, ◌+◌, ◌^◌, ◌<◌, �
 ghost use Rattle.outside_faults.specs.Faults.{HasCause};
 ghost use Rattle.journal_disk.specs.Drive.{Honestly};
 ghost use Rattle.journal_disk.specs.Steps.{GoesOn, Leaves};
-ghost use Rattle.journal_store.specs.Reading.{Unread, IsFrontOf};
+ghost use Rattle.journal_store.specs.Reader.{Unread, IsFrontOf};
 
 use condition_sets::NoMemory;
 use journal_disk::Disk;
@@ -26,7 +26,7 @@ pub struct Window {
 
 impl Model for Window {
     ghost use Rattle.std.specs.Prelude.{◌-◌, take, drop};
-    ghost use Rattle.journal_store.specs.Reading.{Unread};
+    ghost use Rattle.journal_store.specs.Reader.{Unread};
     ghost use Rattle.journal_store.specs.Window.{IsPart};
 
     ghost Value = { Unread };

@@ -2,7 +2,7 @@ use Rattle.std.proofs.Common.{ℕ, ◌+◌, List, length, ◌∙◌, subst, Ok}
 use Rattle.outside_faults.specs.declared.fault_count.Failed.{Failed}
 use Rattle.journal_disk.specs.Images.{IsTorn, overlaid}
 use Rattle.journal_disk.specs.Steps.{Keeps}
-use Rattle.journal_store.specs.AppendLaws.{appends-first, appends-second}
+use Rattle.journal_store.proofs.AppendLaws.{appends-first, appends-second}
 use Rattle.journal_store.proofs.appending.append_at.Goals as goal
 
 pub returns-in-Ok-clause-appends : goal.returns-in-Ok-clause-appends

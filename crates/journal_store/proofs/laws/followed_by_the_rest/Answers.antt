@@ -1,4 +1,4 @@
-use Rattle.journal_store.specs.FoundLaws.{followed}
+use Rattle.journal_store.proofs.FoundLaws.{followed}
 use Rattle.journal_store.proofs.laws.followed_by_the_rest.Goals as goal
 
 pub returns : goal.returns

@@ -1,4 +1,4 @@
-use Rattle.journal_store.specs.Unique.{one-list}
+use Rattle.journal_store.proofs.Unique.{one-list}
 use Rattle.journal_store.proofs.laws.one_list.Goals as goal
 
 pub returns : goal.returns

@@ -1,5 +1,5 @@
 use Rattle.journal_store.specs.Format.{header}
-use Rattle.journal_store.specs.MakeLaws.{makes, made-bytes}
+use Rattle.journal_store.proofs.MakeLaws.{makes, made-bytes}
 use Rattle.journal_store.proofs.making.make_empty.Goals as goal
 
 pub returns-clause-makes : goal.returns-clause-makes

@@ -1,6 +1,6 @@
 use Rattle.std.proofs.Common.{◌≡◌, ◌∙◌, [], ◌∷◌, true, sym, ap, subst}
-use Rattle.journal_store.specs.Opening.{IsHead, Opened}
-use Rattle.journal_store.specs.Reading.{Unread}
+use Rattle.journal_store.specs.Opening.{IsHead, HasOpened}
+use Rattle.journal_store.specs.Reader.{Unread}
 use Rattle.journal_store.proofs.Beginning.{begins-made, fresh, opened-journal, opened-empty}
 use Rattle.journal_store.proofs.opening.open.Goals as goal
 
@@ -33,7 +33,7 @@ returns-in-Ok-clause-opened g c =
     let made = c.in-Ok.ensures.makes is in
     let window : c.end_with.new.self ≡ record { place = 16; bytes = 0 ∷ []; is_last = true } =
     c.end_with.ensures ∙ ap (λ (w : Unread). let u : Unread = record { place = w.place; bytes = 0 ∷ []; is_last = true } in u) c.requires in
-    subst (Opened old (g.D.Disk.drive c.make_empty.new.disk)) (sym window) (opened-empty old (g.D.Disk.drive c.make_empty.new.disk) made.stored.stored short (c.in-Ok.ensures.bytes is))
+    subst (HasOpened old (g.D.Disk.drive c.make_empty.new.disk)) (sym window) (opened-empty old (g.D.Disk.drive c.make_empty.new.disk) made.stored.stored short (c.in-Ok.ensures.bytes is))
 
 pub returns-in-Ok-Header-clause-opened : goal.returns-in-Ok-Header-clause-opened
 returns-in-Ok-Header-clause-opened g c =
@@ -41,4 +41,4 @@ returns-in-Ok-Header-clause-opened g c =
     let old = g.D.Disk.drive c.args.disk.now in
     let e = c.in-Ok-Header.ensures in
     let begins = subst (λ h. IsHead h old.bytes) c.in-Ok-Header.field-0-is (e.head honest) in
-    subst (Opened old (g.D.Disk.drive c.synced_head.new.disk)) (sym c.requires) (opened-journal old (g.D.Disk.drive c.synced_head.new.disk) (e.leaves honest) (e.stored honest) begins.0 begins.1)
+    subst (HasOpened old (g.D.Disk.drive c.synced_head.new.disk)) (sym c.requires) (opened-journal old (g.D.Disk.drive c.synced_head.new.disk) (e.leaves honest) (e.stored honest) begins.0 begins.1)

@@ -1,7 +1,8 @@
 use Rattle.std.proofs.Common.{arith, ap, length, drop, ◌∷◌, [], length-append}
-use Rattle.journal_store.specs.Batches.{payloads_in, length-payloads_in}
+use Rattle.journal_store.specs.Batches.{payloads_in}
+use Rattle.journal_store.proofs.Payloads.{length-payloads_in}
 use Rattle.journal_store.specs.Format.{batch_bytes}
-use Rattle.journal_store.specs.Sized.{body-within, length-batch}
+use Rattle.journal_store.proofs.Sized.{body-within, length-batch}
 use Rattle.journal_store.proofs.batch.Batch.as_slice.Goals as goal
 
 pub returns-clause-within : goal.returns-clause-within

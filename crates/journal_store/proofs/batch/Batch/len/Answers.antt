@@ -1,5 +1,5 @@
 use Rattle.std.proofs.Common.{◌∙◌, sym, ap, length}
-use Rattle.journal_store.specs.Batches.{length-payloads_in}
+use Rattle.journal_store.proofs.Payloads.{length-payloads_in}
 use Rattle.journal_store.proofs.batch.Batch.len.Goals as goal
 
 pub returns-clause-value : goal.returns-clause-value

@@ -1,7 +1,8 @@
 use Rattle.std.proofs.Common.{ℕ, ◌+◌, ◌≤◌, ◌∙◌, ap, arith, List, length, drop, ◌++◌, ◌∷◌, [], length-append}
-use Rattle.journal_store.specs.Batches.{payloads_in, length-payloads_in}
+use Rattle.journal_store.specs.Batches.{payloads_in}
+use Rattle.journal_store.proofs.Payloads.{length-payloads_in}
 use Rattle.journal_store.specs.Format.{batch_bytes, body}
-use Rattle.journal_store.specs.Sized.{body-within, length-batch}
+use Rattle.journal_store.proofs.Sized.{body-within, length-batch}
 use Rattle.journal_store.proofs.Ready.{bytes-of, bytes-more, ready, ready-payloads, fine-more}
 use Rattle.journal_store.proofs.batch.Batch.push.Goals as goal
 

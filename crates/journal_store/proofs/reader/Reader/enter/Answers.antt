@@ -2,8 +2,8 @@ use Rattle.std.proofs.Common.{◌∷◌, sym, ap, subst, arith, length, length-a
 use Rattle.journal_store.specs.Format.{batch_bytes}
 use Rattle.journal_store.specs.Cut.{IsGate}
 use Rattle.journal_store.specs.declared.gate.Gate.TheVariants.{Closed, Open, Torn}
-use Rattle.journal_store.specs.Reading.{HasTold}
-use Rattle.journal_store.specs.Sized.{length-batch}
+use Rattle.journal_store.specs.Reader.{HasTold}
+use Rattle.journal_store.proofs.Sized.{length-batch}
 use Rattle.journal_store.proofs.Telling.{IsAtGate, told-again, front-of, enters-closed, enters-open, enters-torn}
 use Rattle.journal_store.proofs.reader.Reader.enter.Goals as goal
 

@@ -1,5 +1,5 @@
 use Rattle.std.proofs.Common.{ℕ, ◌+◌, ◌-◌, ◌≤◌, List, ◌∙◌, ap, arith, length, drop, take, length-take}
-use Rattle.journal_store.specs.Reading.{Unread}
+use Rattle.journal_store.specs.Reader.{Unread}
 use Rattle.journal_store.proofs.Windows.{skipped}
 use Rattle.journal_store.proofs.window.Window.skip.Goals as goal
 

@@ -10,15 +10,15 @@ use Rattle.journal_disk.specs.Drive.{Drive, IsStored}
 use Rattle.journal_disk.specs.Images.{IsTorn, grown, overlaid}
 use Rattle.journal_disk.specs.Laws.{overlaid-torn}
 use Rattle.journal_disk.specs.Steps.{GoesOn, Keeps}
-use Rattle.journal_store.specs.Format.{header, IsBatch, batch_bytes, opened, payloads}
-use Rattle.journal_store.specs.FormatLaws.{opened-more, payloads-more}
+use Rattle.journal_store.specs.Format.{header, IsBatch, batch_bytes, open_gates, payloads}
+use Rattle.journal_store.proofs.FormatLaws.{opened-more, payloads-more}
 use Rattle.journal_store.specs.Stands.{HasGates, Stands, StandsForEither, StoresAt, Appends}
-use Rattle.journal_store.specs.TornLaws.{torn-front, torn-behind}
+use Rattle.journal_store.proofs.TornLaws.{torn-front, torn-behind}
 use Rattle.journal_store.specs.declared.limits.TheConstants.{VERSION}
 
 -- all that stands before the closed gate
 abbrev pub front : List (List (List ℕ)) → List ℕ
-front batches = header VERSION ++ opened batches
+front batches = header VERSION ++ open_gates batches
 
 -- the same with the gate
 cut-gate : (xs : List ℕ) (gate : ℕ) (rest : List ℕ) → xs ++ gate ∷ rest ≡ (xs ++ gate ∷ []) ++ rest
@@ -98,7 +98,7 @@ with-batch batches batch tail image formed is bytes = record {
   bytes =
       bytes
       ∙ (sym (append_assoc (front batches) (1 ∷ batch_bytes batch) (0 ∷ tail))
-      ∙ ap (λ (xs : List ℕ). xs ++ 0 ∷ tail) (append_assoc (header VERSION) (opened batches) (1 ∷ batch_bytes batch) ∙ ap (λ (xs : List ℕ). header VERSION ++ xs) (sym (opened-more batches batch))));
+      ∙ ap (λ (xs : List ℕ). xs ++ 0 ∷ tail) (append_assoc (header VERSION) (open_gates batches) (1 ∷ batch_bytes batch) ∙ ap (λ (xs : List ℕ). header VERSION ++ xs) (sym (opened-more batches batch))));
 }
 
 pub either : (batches : List (List (List ℕ))) (list batch : List (List ℕ)) (x : ℕ) (tail image : List ℕ) → All IsBatch batches → IsBatch batch → list ≡ payloads batches
@@ -163,7 +163,7 @@ stores-more : (place : ℕ) (list batch : List (List ℕ)) (old middle new : Dri
 stores-more place list batch old middle new stores tail is made bytes honest stored =
     let now = bytes ∙ (ap (λ (p : ℕ). overlaid p (1 ∷ []) middle.bytes) stores.placed ∙ gate-written stores.batches stores.gate (batch_bytes batch ++ 0 ∷ tail) middle.bytes made) in
     let longer : front (stores.batches ++ batch ∷ []) ≡ front stores.batches ++ (1 ∷ batch_bytes batch) =
-    ap (λ (xs : List ℕ). header VERSION ++ xs) (opened-more stores.batches batch) ∙ sym (append_assoc (header VERSION) (opened stores.batches) (1 ∷ batch_bytes batch)) in
+    ap (λ (xs : List ℕ). header VERSION ++ xs) (opened-more stores.batches batch) ∙ sym (append_assoc (header VERSION) (open_gates stores.batches) (1 ∷ batch_bytes batch)) in
     record {
       batches = stores.batches ++ batch ∷ [];
       gate = 0;

@@ -7,14 +7,10 @@ use Rattle.std.proofs.Math.ListN.{drop_of_length-le}
 use Rattle.journal_disk.specs.Drive.{Drive}
 use Rattle.journal_disk.specs.Images.{IsTorn, grown, overlaid}
 use Rattle.journal_disk.specs.Steps.{GoesOn, Keeps}
-use Rattle.journal_store.specs.Format.{header, IsBatch}
-use Rattle.journal_store.specs.FormatLaws.{length-header}
+use Rattle.journal_store.specs.Format.{header, empty_bytes, IsBatch}
+use Rattle.journal_store.proofs.FormatLaws.{length-header}
 use Rattle.journal_store.specs.Stands.{Stands, IsFresh, Makes}
 use Rattle.journal_store.specs.declared.limits.TheConstants.{VERSION}
-
--- the bytes of an empty journal
-abbrev pub empty_bytes : List ℕ
-empty_bytes = header VERSION ++ 0 ∷ []
 
 pub length-empty : length empty_bytes ≡ 17
 length-empty = omega (arith, length-append (header VERSION) (0 ∷ []), length-header VERSION)
@@ -27,9 +23,9 @@ early_or : {A B C : Type 0} → A ⊎ B → (B → C) → A ⊎ C
 early_or (inl early) onward = inl early
 early_or (inr torn) onward = inr (onward torn)
 
--- written whole, nothing else is left
-pub written : (bytes : List ℕ) → length bytes ≤ 17 → overlaid 0 empty_bytes bytes ≡ empty_bytes
-written bytes short =
+-- overlaid-empty whole, nothing else is left
+pub overlaid-empty : (bytes : List ℕ) → length bytes ≤ 17 → overlaid 0 empty_bytes bytes ≡ empty_bytes
+overlaid-empty bytes short =
     let pad : List ℕ = replicate (0 + length empty_bytes - length bytes) 0 in
     let none : drop (0 + length empty_bytes) (grown (0 + length empty_bytes) bytes) ≡ [] =
     drop_of_length-le (grown (0 + length empty_bytes) bytes) (omega (arith, length-append bytes pad, length-replicate {A = ℕ} (0 + length empty_bytes - length bytes) 0, length-empty, short)) in
@@ -48,7 +44,7 @@ makes (Ok x) old new fresh goes keeps = record {
     gates = record {
       formed = All-nil IsBatch;
       closed = λ (same : 0 ≡ 1). omega (arith, same);
-      bytes = keeps.bytes ∙ (written old.bytes fresh.short ∙ ap (λ (xs : List ℕ). xs ++ 0 ∷ []) (sym (append-nil (header VERSION))));
+      bytes = keeps.bytes ∙ (overlaid-empty old.bytes fresh.short ∙ ap (λ (xs : List ℕ). xs ++ 0 ∷ []) (sym (append-nil (header VERSION))));
     };
     listed = refl;
     placed = omega (arith, length-append (header VERSION) [], length-header VERSION);
@@ -62,5 +58,5 @@ makes (Err e) old new fresh goes keeps = record {
 
 -- the bytes of an empty journal are there where making it succeeded
 pub made-bytes : {T E : Type 0} (result : Result T E) (old new : Drive) → IsFresh old → Keeps (IsTorn 0 (length empty_bytes)) (overlaid 0 empty_bytes old.bytes) result old new → OnOk result (new.bytes ≡ empty_bytes)
-made-bytes (Ok x) old new fresh keeps = keeps.bytes ∙ written old.bytes fresh.short
+made-bytes (Ok x) old new fresh keeps = keeps.bytes ∙ overlaid-empty old.bytes fresh.short
 made-bytes (Err e) old new fresh keeps = tt

@@ -6,9 +6,9 @@ use Rattle.std.proofs.lemmas.List.Elements.{All-head, All-tail}
 use Rattle.std.proofs.Math.Seq.{take-append_seam, drop-append_seam}
 use Rattle.byteorder.specs.Endian.{big_bytes, big_number}
 use Rattle.byteorder.specs.Numbers.{big_number-reads_back, length-bytes_high_first}
-use Rattle.journal_store.specs.Format.{header, IsPayload, IsBatch, payload_bytes, body, batch_bytes, opened, payloads}
-use Rattle.journal_store.specs.FormatLaws.{length-header}
-use Rattle.journal_store.specs.Sized.{body-within, length-batch}
+use Rattle.journal_store.specs.Format.{header, IsPayload, IsBatch, payload_bytes, body, batch_bytes, open_gates, payloads}
+use Rattle.journal_store.proofs.FormatLaws.{length-header}
+use Rattle.journal_store.proofs.Sized.{body-within, length-batch}
 use Rattle.journal_store.specs.Stands.{HasGates, Stands}
 use Rattle.journal_store.specs.declared.limits.TheConstants.{VERSION}
 
@@ -66,32 +66,32 @@ first-byte x y us vs same = cc
 pub later-bytes : (x y : ℕ) (us vs : List ℕ) → x ∷ us ≡ y ∷ vs → us ≡ vs
 later-bytes x y us vs same = cc
 
-pub open-first : (b : List (List ℕ)) (bs : List (List (List ℕ))) (xs : List ℕ) → opened (b ∷ bs) ++ xs ≡ 1 ∷ (batch_bytes b ++ (opened bs ++ xs))
+pub open-first : (b : List (List ℕ)) (bs : List (List (List ℕ))) (xs : List ℕ) → open_gates (b ∷ bs) ++ xs ≡ 1 ∷ (batch_bytes b ++ (open_gates bs ++ xs))
 open-first b bs xs =
-    ap (λ (ys : List ℕ). ys ++ xs) (flat_map-cons (λ batch. 1 ∷ batch_bytes batch) b bs) ∙ append_assoc (1 ∷ batch_bytes b) (opened bs) xs
+    ap (λ (ys : List ℕ). ys ++ xs) (flat_map-cons (λ batch. 1 ∷ batch_bytes batch) b bs) ∙ append_assoc (1 ∷ batch_bytes b) (open_gates bs) xs
 
-pub same-gates : (bs cs : List (List (List ℕ))) (g h : ℕ) (us vs : List ℕ) → All IsBatch bs → All IsBatch cs → g ≢ 1 → h ≢ 1 → opened bs ++ g ∷ us ≡ opened cs ++ h ∷ vs → bs ≡ cs
+pub same-gates : (bs cs : List (List (List ℕ))) (g h : ℕ) (us vs : List ℕ) → All IsBatch bs → All IsBatch cs → g ≢ 1 → h ≢ 1 → open_gates bs ++ g ∷ us ≡ open_gates cs ++ h ∷ vs → bs ≡ cs
 same-gates [] [] g h us vs fine good shut closed same = refl
-same-gates [] (c ∷ cs) g h us vs fine good shut closed same = absurd (shut (first-byte g 1 us (batch_bytes c ++ (opened cs ++ h ∷ vs)) (same ∙ open-first c cs (h ∷ vs))))
-same-gates (b ∷ bs) [] g h us vs fine good shut closed same = absurd (closed (first-byte h 1 vs (batch_bytes b ++ (opened bs ++ g ∷ us)) (sym same ∙ open-first b bs (g ∷ us))))
+same-gates [] (c ∷ cs) g h us vs fine good shut closed same = absurd (shut (first-byte g 1 us (batch_bytes c ++ (open_gates cs ++ h ∷ vs)) (same ∙ open-first c cs (h ∷ vs))))
+same-gates (b ∷ bs) [] g h us vs fine good shut closed same = absurd (closed (first-byte h 1 vs (batch_bytes b ++ (open_gates bs ++ g ∷ us)) (sym same ∙ open-first b bs (g ∷ us))))
 same-gates (b ∷ bs) (c ∷ cs) g h us vs fine good shut closed same =
-    let behind = later-bytes 1 1 (batch_bytes b ++ (opened bs ++ g ∷ us)) (batch_bytes c ++ (opened cs ++ h ∷ vs)) (sym (open-first b bs (g ∷ us)) ∙ (same ∙ open-first c cs (h ∷ vs))) in
-    let both = same-batch b c (opened bs ++ g ∷ us) (opened cs ++ h ∷ vs) (All-head IsBatch b bs fine) (All-head IsBatch c cs good) behind in
+    let behind = later-bytes 1 1 (batch_bytes b ++ (open_gates bs ++ g ∷ us)) (batch_bytes c ++ (open_gates cs ++ h ∷ vs)) (sym (open-first b bs (g ∷ us)) ∙ (same ∙ open-first c cs (h ∷ vs))) in
+    let both = same-batch b c (open_gates bs ++ g ∷ us) (open_gates cs ++ h ∷ vs) (All-head IsBatch b bs fine) (All-head IsBatch c cs good) behind in
     ap (λ (x : List (List ℕ)). x ∷ bs) both.0 ∙ ap (λ (xs : List (List (List ℕ))). c ∷ xs) (same-gates bs cs g h us vs (All-tail IsBatch b bs fine) (All-tail IsBatch c cs good) shut closed both.1)
 
 -- an image of at most 17 bytes has no open gate
 pub none-short : (bs : List (List (List ℕ))) (g : ℕ) (rest image : List ℕ) → HasGates bs g rest image → length image ≤ 17 → payloads bs ≡ []
 none-short [] g rest image gates short = refl
 none-short (b ∷ bs) g rest image gates short =
-    absurd (omega (arith, short, ap length gates.bytes, length-append (header VERSION ++ opened (b ∷ bs)) (g ∷ rest), length-append (header VERSION) (opened (b ∷ bs)), length-header VERSION, ap length (flat_map-cons (λ batch. 1 ∷ batch_bytes batch) b bs), length-append (1 ∷ batch_bytes b) (opened bs), length-batch b))
+    absurd (omega (arith, short, ap length gates.bytes, length-append (header VERSION ++ open_gates (b ∷ bs)) (g ∷ rest), length-append (header VERSION) (open_gates (b ∷ bs)), length-header VERSION, ap length (flat_map-cons (λ batch. 1 ∷ batch_bytes batch) b bs), length-append (1 ∷ batch_bytes b) (open_gates bs), length-batch b))
 
 pub one-list : (image : List ℕ) (list other : List (List ℕ)) → Stands image list → Stands image other → list ≡ other
 one-list image list other (inl short) (inl few) = short.1 ∙ sym few.1
 one-list image list other (inl short) (inr journal) = short.1 ∙ (sym (none-short journal.0 journal.1 journal.2 image journal.3 short.0) ∙ sym journal.4)
 one-list image list other (inr journal) (inl short) = journal.4 ∙ (none-short journal.0 journal.1 journal.2 image journal.3 short.0 ∙ sym short.1)
 one-list image list other (inr one) (inr two) =
-    let bytes : opened one.0 ++ one.1 ∷ one.2 ≡ opened two.0 ++ two.1 ∷ two.2 =
-    same-rest (header VERSION) (header VERSION) (opened one.0 ++ one.1 ∷ one.2) (opened two.0 ++ two.1 ∷ two.2) refl (
-    sym (append_assoc (header VERSION) (opened one.0) (one.1 ∷ one.2)) ∙ (sym one.3.bytes ∙ (two.3.bytes ∙ append_assoc (header VERSION) (opened two.0) (two.1 ∷ two.2)))
+    let bytes : open_gates one.0 ++ one.1 ∷ one.2 ≡ open_gates two.0 ++ two.1 ∷ two.2 =
+    same-rest (header VERSION) (header VERSION) (open_gates one.0 ++ one.1 ∷ one.2) (open_gates two.0 ++ two.1 ∷ two.2) refl (
+    sym (append_assoc (header VERSION) (open_gates one.0) (one.1 ∷ one.2)) ∙ (sym one.3.bytes ∙ (two.3.bytes ∙ append_assoc (header VERSION) (open_gates two.0) (two.1 ∷ two.2)))
     ) in
     one.4 ∙ (ap payloads (same-gates one.0 two.0 one.1 two.1 one.2 two.2 one.3.formed two.3.formed one.3.closed two.3.closed bytes) ∙ sym two.4)
