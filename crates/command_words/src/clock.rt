@@ -1,5 +1,5 @@
 ghost use Rattle.std.specs.Prelude.{◌≡◌, ℕ, List, ◌∷◌, [], ◌++◌};
-ghost use Rattle.command_words.specs.Clock.{Counts, Ticking};
+ghost use Rattle.command_words.specs.Clock.{Counts, ListClockView};
 
 use std::marker::Model;
 
@@ -22,9 +22,9 @@ pub struct ListClock {
 }
 
 impl Model for ListClock {
-    ghost use Rattle.command_words.specs.Clock.{Ticking};
+    ghost use Rattle.command_words.specs.Clock.{ListClockView};
 
-    ghost Value = { Ticking };
+    ghost Value = { ListClockView };
 
     ghost view = { λ c. record { first = c.first; next = c.next } };
 }

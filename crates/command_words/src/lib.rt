@@ -8,6 +8,7 @@
 mod act;
 mod clock;
 mod command;
+pub mod laws;
 mod refusal;
 mod reply;
 
