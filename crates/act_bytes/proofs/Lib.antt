@@ -1,2 +1,5 @@
+mod Bodies
+mod Fields
 pub mod Loop
 pub mod Putting
+pub mod Unique

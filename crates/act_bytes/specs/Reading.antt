@@ -15,14 +15,14 @@ abbrev pub ◌>>=◌ : {A B : Type 0} → Option A → (A → Option B) → Opti
 None >>= f = None
 
 -- Reading gives nothing, or memory ran out.
-abbrev pub Stops : {Y : Type 0} → ReadFault → Option Y → Type 0
-Stops Memory read = ⊤
-Stops NoAct read = read ≡ None
+abbrev pub GivesNone : {Y : Type 0} → ReadFault → Option Y → Type 0
+GivesNone Memory read = ⊤
+GivesNone NoAct read = read ≡ None
 
 -- What a function returned, seen by view, is what reading gives, unless memory ran out.
 abbrev pub Gives : {X Y : Type 0} → (X → Y) → Result X ReadFault → Option Y → Type 0
 Gives view (Ok x) read = read ≡ Some (view x)
-Gives view (Err fault) read = Stops fault read
+Gives view (Err fault) read = GivesNone fault read
 
 -- A field is a value at the front of the bytes, with the bytes behind it.
 abbrev pub Field : Type 0 → Type 0
@@ -34,8 +34,8 @@ abbrev pub first_byte : Field ℕ
 first_byte [] = None
 first_byte (byte ∷ rest) = Some (byte, rest)
 
-abbrev pub number_at : Width → Field ℕ
-number_at w bytes = if nat_lt (length bytes) (byte_len w) then None else Some (from_be_bytes w (take (byte_len w) bytes), drop (byte_len w) bytes)
+abbrev pub next_number : Width → Field ℕ
+next_number w bytes = if nat_lt (length bytes) (byte_len w) then None else Some (from_be_bytes w (take (byte_len w) bytes), drop (byte_len w) bytes)
 
 -- ---- fields made of others
 
@@ -64,53 +64,53 @@ checked test field bytes = do
   Some (y, x.1)
 
 -- so many of a kind
-unfoldable pub items_at : {A : Type 0} → Field A → ℕ → Field (List A)
-items_at item zero bytes = Some ([], bytes)
-items_at item (suc n) bytes = do
+unfoldable pub next_items : {A : Type 0} → Field A → ℕ → Field (List A)
+next_items item zero bytes = Some ([], bytes)
+next_items item (suc n) bytes = do
   first ← item bytes
-  others ← items_at item n first.1
+  others ← next_items item n first.1
   Some (first.0 ∷ others.0, others.1)
 
 -- as many of a kind as the first byte says
 abbrev pub counted : {A : Type 0} → Field A → Field (List A)
 counted item bytes = do
   count ← first_byte bytes
-  items_at item count.0 count.1
+  next_items item count.0 count.1
 
 -- ---- the fields of acts
 
-abbrev pub pair_at : Field (ℕ × ℕ)
-pair_at = number_at w16 and number_at w32
+abbrev pub next_pair : Field (ℕ × ℕ)
+next_pair = next_number w16 and next_number w32
 
-unfoldable pub key_at : Field Collection
-key_at = counted pair_at
+unfoldable pub next_key : Field Collection
+next_key = counted next_pair
 
-unfoldable pub sets_at : Field (List ℕ)
-sets_at = counted (number_at w32)
+unfoldable pub next_sets : Field (List ℕ)
+next_sets = counted (next_number w32)
 
-abbrev pub condition_at : Field ℕ
-condition_at = checked is_condition (number_at w16)
+abbrev pub next_condition : Field ℕ
+next_condition = checked is_condition (next_number w16)
 
 -- ---- bodies
 
-unfoldable pub deposit_at : Field Command
-deposit_at = made (λ x. Deposit x.0 x.1) (number_at w16 and number_at w64)
+unfoldable pub next_deposit : Field Command
+next_deposit = made (λ x. Deposit x.0 x.1) (next_number w16 and next_number w64)
 
-unfoldable pub prepare_at : Field Command
-prepare_at = made (λ x. Prepare x.0.0 x.0.1 x.1) (number_at w16 and number_at w64 and first_byte)
+unfoldable pub next_prepare : Field Command
+next_prepare = made (λ x. Prepare x.0.0 x.0.1 x.1) (next_number w16 and next_number w64 and first_byte)
 
-unfoldable pub split_at : Field Command
-split_at = made (λ x. Split x.0.0.0 x.0.0.1 x.0.1 x.1) (key_at and condition_at and sets_at and number_at w64)
+unfoldable pub next_split : Field Command
+next_split = made (λ x. Split x.0.0.0 x.0.0.1 x.0.1 x.1) (next_key and next_condition and next_sets and next_number w64)
 
 -- a body of the kind of this number
-unfoldable pub body_at : ℕ → Field Command
-body_at kind bytes = if kind == 1 then deposit_at bytes else if kind == 4 then prepare_at bytes else if kind == 6 then split_at bytes else None
+unfoldable pub next_body : ℕ → Field Command
+next_body kind bytes = if kind == 1 then next_deposit bytes else if kind == 4 then next_prepare bytes else if kind == 6 then next_split bytes else None
 
 -- ---- acts
 
 -- a moment, an account and the number of a kind
-abbrev pub head_at : Field ((ℕ × ℕ) × ℕ)
-head_at = number_at w64 and number_at w16 and first_byte
+abbrev pub next_head : Field ((ℕ × ℕ) × ℕ)
+next_head = next_number w64 and next_number w16 and first_byte
 
 -- nothing stands behind a command, which is of a form that is carried out so far
 abbrev pub is_whole : Command × List ℕ → Bool
@@ -119,7 +119,7 @@ is_whole x = (length x.1 == 0) && (in_ranges x.0 && is_built x.0)
 -- the act that all of the bytes spell
 unfoldable pub act_in : List ℕ → Option Act
 act_in bytes = do
-  head ← head_at bytes
-  body ← body_at head.0.1 head.1
+  head ← next_head bytes
+  body ← next_body head.0.1 head.1
   whole ← passed is_whole body
   Some (record { moment = head.0.0.0; account = head.0.0.1; command = whole.0 })

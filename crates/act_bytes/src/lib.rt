@@ -11,6 +11,3 @@ mod writing;
 
 pub use reading::read_act;
 pub use writing::{MAX_ACT, write_act};
-
-#[cfg(test)]
-mod tests;

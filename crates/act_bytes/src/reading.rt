@@ -3,7 +3,7 @@ ghost use Rattle.std.specs.Int.{w16, w32, w64};
 ghost use Rattle.command_words.specs.Keys.{is_condition};
 ghost use Rattle.command_words.specs.declared.act.Act.{Act};
 ghost use Rattle.act_bytes.specs.Spelling.{Spells};
-ghost use Rattle.act_bytes.specs.Reading.{Gives, first_byte, number_at, pair_at, passed, items_at, key_at, sets_at, deposit_at, prepare_at, split_at, body_at, act_in};
+ghost use Rattle.act_bytes.specs.Reading.{Gives, first_byte, next_number, next_pair, passed, next_items, next_key, next_sets, next_deposit, next_prepare, next_split, next_body, act_in};
 
 use crate::fault::ReadFault;
 use command_words::{Act, Command};
@@ -22,7 +22,7 @@ fn u8_of(bytes: &[u8]) -> Result<(u8, &[u8]), ReadFault>
 
 /// The number in the first two bytes, and the bytes behind it.
 fn u16_of(bytes: &[u8]) -> Result<(u16, &[u8]), ReadFault>
-    ensures { Gives (λ x. (x.0, x.1.now)) result (number_at w16 bytes.now) }
+    ensures { Gives (λ x. (x.0, x.1.now)) result (next_number w16 bytes.now) }
 {
     if bytes.len() < 2 {
         return Err(ReadFault::NoAct);
@@ -34,7 +34,7 @@ fn u16_of(bytes: &[u8]) -> Result<(u16, &[u8]), ReadFault>
 
 /// The number in the first four bytes, and the bytes behind it.
 fn u32_of(bytes: &[u8]) -> Result<(u32, &[u8]), ReadFault>
-    ensures { Gives (λ x. (x.0, x.1.now)) result (number_at w32 bytes.now) }
+    ensures { Gives (λ x. (x.0, x.1.now)) result (next_number w32 bytes.now) }
 {
     if bytes.len() < 4 {
         return Err(ReadFault::NoAct);
@@ -46,7 +46,7 @@ fn u32_of(bytes: &[u8]) -> Result<(u32, &[u8]), ReadFault>
 
 /// The number in the first eight bytes, and the bytes behind it.
 fn u64_of(bytes: &[u8]) -> Result<(u64, &[u8]), ReadFault>
-    ensures { Gives (λ x. (x.0, x.1.now)) result (number_at w64 bytes.now) }
+    ensures { Gives (λ x. (x.0, x.1.now)) result (next_number w64 bytes.now) }
 {
     if bytes.len() < 8 {
         return Err(ReadFault::NoAct);
@@ -70,7 +70,7 @@ fn condition_of(number: u16) -> Result<ConditionId, ReadFault>
 
 /// The pair of a key in the first six bytes, and the bytes behind it.
 fn pair_of(bytes: &[u8]) -> Result<((u16, u32), &[u8]), ReadFault>
-    ensures { Gives (λ x. (x.0, x.1.now)) result (pair_at bytes.now) }
+    ensures { Gives (λ x. (x.0, x.1.now)) result (next_pair bytes.now) }
 {
     let (condition, rest) = u16_of(bytes)?;
     let (bits, rest) = u32_of(rest)?;
@@ -79,7 +79,7 @@ fn pair_of(bytes: &[u8]) -> Result<((u16, u32), &[u8]), ReadFault>
 
 /// So many pairs, and the bytes behind them.
 fn pairs_of(alloc: Global, count: u8, bytes: &[u8]) -> Result<(Vec<(u16, u32)>, &[u8]), ReadFault>
-    ensures { Gives (λ x. (x.0.items, x.1.now)) result (items_at pair_at count bytes.now) }
+    ensures { Gives (λ x. (x.0.items, x.1.now)) result (next_items next_pair count bytes.now) }
 {
     let mut pairs = Vec::new(alloc);
     let mut rest = bytes;
@@ -93,7 +93,7 @@ fn pairs_of(alloc: Global, count: u8, bytes: &[u8]) -> Result<(Vec<(u16, u32)>, 
 
 /// So many sets, and the bytes behind them.
 fn bits_of(alloc: Global, count: u8, bytes: &[u8]) -> Result<(Vec<u32>, &[u8]), ReadFault>
-    ensures { Gives (λ x. (x.0.items, x.1.now)) result (items_at (number_at w32) count bytes.now) }
+    ensures { Gives (λ x. (x.0.items, x.1.now)) result (next_items (next_number w32) count bytes.now) }
 {
     let mut sets = Vec::new(alloc);
     let mut rest = bytes;
@@ -106,27 +106,27 @@ fn bits_of(alloc: Global, count: u8, bytes: &[u8]) -> Result<(Vec<u32>, &[u8]), 
 }
 
 /// The key at the front, and the bytes behind it.
-#[tactic(auto, unfolding(crate::specs::Reading::key_at))]
+#[tactic(auto, unfolding(crate::specs::Reading::next_key))]
 fn key_of(alloc: Global, bytes: &[u8]) -> Result<(Vec<(u16, u32)>, &[u8]), ReadFault>
-    ensures { Gives (λ x. (x.0.items, x.1.now)) result (key_at bytes.now) }
+    ensures { Gives (λ x. (x.0.items, x.1.now)) result (next_key bytes.now) }
 {
     let (count, rest) = u8_of(bytes)?;
     pairs_of(alloc, count, rest)
 }
 
 /// The list of sets at the front, and the bytes behind it.
-#[tactic(auto, unfolding(crate::specs::Reading::sets_at))]
+#[tactic(auto, unfolding(crate::specs::Reading::next_sets))]
 fn sets_of(alloc: Global, bytes: &[u8]) -> Result<(Vec<u32>, &[u8]), ReadFault>
-    ensures { Gives (λ x. (x.0.items, x.1.now)) result (sets_at bytes.now) }
+    ensures { Gives (λ x. (x.0.items, x.1.now)) result (next_sets bytes.now) }
 {
     let (count, rest) = u8_of(bytes)?;
     bits_of(alloc, count, rest)
 }
 
 /// The body of a deposit, and the bytes behind it.
-#[tactic(auto, unfolding(crate::specs::Reading::deposit_at))]
+#[tactic(auto, unfolding(crate::specs::Reading::next_deposit))]
 fn deposit_of(bytes: &[u8]) -> Result<(Command, &[u8]), ReadFault>
-    ensures { Gives (λ x. (x.0, x.1.now)) result (deposit_at bytes.now) }
+    ensures { Gives (λ x. (x.0, x.1.now)) result (next_deposit bytes.now) }
 {
     let (to, rest) = u16_of(bytes)?;
     let (amount, rest) = u64_of(rest)?;
@@ -135,9 +135,9 @@ fn deposit_of(bytes: &[u8]) -> Result<(Command, &[u8]), ReadFault>
 }
 
 /// The body of a preparation, and the bytes behind it.
-#[tactic(auto, unfolding(crate::specs::Reading::prepare_at))]
+#[tactic(auto, unfolding(crate::specs::Reading::next_prepare))]
 fn prepare_of(bytes: &[u8]) -> Result<(Command, &[u8]), ReadFault>
-    ensures { Gives (λ x. (x.0, x.1.now)) result (prepare_at bytes.now) }
+    ensures { Gives (λ x. (x.0, x.1.now)) result (next_prepare bytes.now) }
 {
     let (oracle, rest) = u16_of(bytes)?;
     let (question, rest) = u64_of(rest)?;
@@ -154,9 +154,9 @@ fn prepare_of(bytes: &[u8]) -> Result<(Command, &[u8]), ReadFault>
 }
 
 /// The body of a split, and the bytes behind it.
-#[tactic(auto, unfolding(crate::specs::Reading::split_at))]
+#[tactic(auto, unfolding(crate::specs::Reading::next_split))]
 fn split_of(alloc: Global, bytes: &[u8]) -> Result<(Command, &[u8]), ReadFault>
-    ensures { Gives (λ x. (x.0, x.1.now)) result (split_at bytes.now) }
+    ensures { Gives (λ x. (x.0, x.1.now)) result (next_split bytes.now) }
 {
     let (parent, rest) = key_of(alloc, bytes)?;
     let (condition, rest) = u16_of(rest)?;
@@ -177,9 +177,9 @@ fn split_of(alloc: Global, bytes: &[u8]) -> Result<(Command, &[u8]), ReadFault>
 }
 
 /// The body of the kind of a number, and the bytes behind it.
-#[tactic(auto, unfolding(crate::specs::Reading::body_at))]
+#[tactic(auto, unfolding(crate::specs::Reading::next_body))]
 fn body_of(alloc: Global, kind: u8, bytes: &[u8]) -> Result<(Command, &[u8]), ReadFault>
-    ensures { Gives (λ x. (x.0, x.1.now)) result (body_at kind bytes.now) }
+    ensures { Gives (λ x. (x.0, x.1.now)) result (next_body kind bytes.now) }
 {
     match kind {
         1 => deposit_of(bytes),

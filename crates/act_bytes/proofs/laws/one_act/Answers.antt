@@ -1,4 +1,4 @@
-use Rattle.act_bytes.specs.Unique.{one-act}
+use Rattle.act_bytes.proofs.Unique.{one-act}
 use Rattle.act_bytes.proofs.laws.one_act.Goals as goal
 
 pub returns : goal.returns

@@ -1,4 +1,4 @@
-use Rattle.act_bytes.specs.Unique.{one-spelling}
+use Rattle.act_bytes.proofs.Unique.{one-spelling}
 use Rattle.act_bytes.proofs.laws.one_spelling.Goals as goal
 
 pub returns : goal.returns

@@ -1,5 +1,5 @@
 use Rattle.std.proofs.Common.{arith}
-use Rattle.act_bytes.specs.Unique.{is-spelled, is-none}
+use Rattle.act_bytes.proofs.Unique.{is-spelled, is-none}
 use Rattle.act_bytes.proofs.reading.read_act.Goals as goal
 
 pub returns-in-Ok-clause-some : goal.returns-in-Ok-clause-some

@@ -1,5 +1,5 @@
 use Rattle.std.proofs.Common.{arith}
-use Rattle.act_bytes.specs.Bodies.{length-body}
+use Rattle.act_bytes.proofs.Bodies.{length-body}
 use Rattle.act_bytes.proofs.Putting.{puts-act}
 use Rattle.act_bytes.proofs.writing.write_act.Goals as goal
 

@@ -7,7 +7,7 @@ use Rattle.std.proofs.lemmas.Option.{cond_some}
 use Rattle.std.proofs.lemmas.List.{take_at, drop_at, take-append-drop, length-append, length-take, get_or-drop, get_or-take, get_or_past}
 use Rattle.std.proofs.lemmas.List.Concat.{flat_map-cons}
 use Rattle.std.proofs.lemmas.Nat.{be_bytes_2, be_bytes_4, be_bytes_8, from_be_bytes-to_be_bytes_2, from_be_bytes-to_be_bytes_4, from_be_bytes-to_be_bytes_8}
-use Rattle.act_bytes.specs.Reading.{◌>>=◌, Field, first_byte, number_at, ◌and◌, made, passed, checked, items_at, counted}
+use Rattle.act_bytes.specs.Reading.{◌>>=◌, Field, first_byte, next_number, ◌and◌, made, passed, checked, next_items, counted}
 
 -- each is a byte
 abbrev pub IsBytes : List ℕ → Type 0
@@ -96,7 +96,7 @@ enough : {A : Type 0} (b : Bool) (x y : A) → cond b None (Some x) ≡ Some y �
 enough true x y e = absurd cc
 enough false x y e = (refl, cc)
 
-number-takes : (w : Width) (limit : ℕ) (wide : IsWide w limit) (bytes rest : List ℕ) (n : ℕ) → IsBytes bytes → number_at w bytes ≡ Some (n, rest) → Takes bytes (to_be_bytes w n) rest × (n < limit)
+number-takes : (w : Width) (limit : ℕ) (wide : IsWide w limit) (bytes rest : List ℕ) (n : ℕ) → IsBytes bytes → next_number w bytes ≡ Some (n, rest) → Takes bytes (to_be_bytes w n) rest × (n < limit)
 number-takes w limit wide bytes rest n fits e =
     let g = enough (ltb (length bytes) (byte_len w)) (from_be_bytes w (take (byte_len w) bytes), drop (byte_len w) bytes) (n, rest) e in
     let long : byte_len w ≤ length bytes = ltb-false _ _ g.0 in
@@ -105,22 +105,22 @@ number-takes w limit wide bytes rest n fits e =
     let front : to_be_bytes w n ≡ take (byte_len w) bytes = rw (← n-is) (wide.back (take (byte_len w) bytes) (omega (arith, length-take (byte_len w) bytes)) (IsBytes-take (byte_len w) bytes fits)) in
     (record { parts = rw (front, ← rest-is) (sym (take-append-drop (byte_len w) bytes)); rest_fits = rw (← rest-is) (IsBytes-drop (byte_len w) bytes fits) }, rw (← n-is) (wide.below (take (byte_len w) bytes) (IsBytes-take (byte_len w) bytes fits)))
 
-number-again : (w : Width) (limit : ℕ) (wide : IsWide w limit) (n : ℕ) (rest : List ℕ) → n < limit → number_at w (to_be_bytes w n ++ rest) ≡ Some (n, rest)
+number-again : (w : Width) (limit : ℕ) (wide : IsWide w limit) (n : ℕ) (rest : List ℕ) → n < limit → next_number w (to_be_bytes w n ++ rest) ≡ Some (n, rest)
 number-again w limit wide n rest less =
     let len = wide.len n in
     let long : ltb (length (to_be_bytes w n ++ rest)) (byte_len w) ≡ false = le-ltb _ _ (omega (arith, length-append (to_be_bytes w n) rest)) in
     rw (long, take_at (to_be_bytes w n) rest (byte_len w) len, drop_at (to_be_bytes w n) rest (byte_len w) len, wide.again n less) refl
 
-number-field : (w : Width) (limit : ℕ) → IsWide w limit → IsField (number_at w) (to_be_bytes w) (λ n. n < limit)
+number-field : (w : Width) (limit : ℕ) → IsWide w limit → IsField (next_number w) (to_be_bytes w) (λ n. n < limit)
 number-field w limit wide = record { takes = number-takes w limit wide; again = number-again w limit wide }
 
-pub u16-field : IsField (number_at w16) (to_be_bytes w16) (λ n. n < 2 ^ 16)
+pub u16-field : IsField (next_number w16) (to_be_bytes w16) (λ n. n < 2 ^ 16)
 u16-field = number-field w16 (2 ^ 16) wide16
 
-pub u32-field : IsField (number_at w32) (to_be_bytes w32) (λ n. n < 2 ^ 32)
+pub u32-field : IsField (next_number w32) (to_be_bytes w32) (λ n. n < 2 ^ 32)
 u32-field = number-field w32 (2 ^ 32) wide32
 
-pub u64-field : IsField (number_at w64) (to_be_bytes w64) (λ n. n < 2 ^ 64)
+pub u64-field : IsField (next_number w64) (to_be_bytes w64) (λ n. n < 2 ^ 64)
 u64-field = number-field w64 (2 ^ 64) wide64
 
 -- ---- fields made of others
@@ -156,31 +156,31 @@ checked-field {A = A} test {field = field} {bytes-of = bytes-of} {Fits = Fits} l
 }
 
 -- so many of a kind
-items-take : {A : Type 0} {item : Field A} {bytes-of : A → List ℕ} {Fits : A → Type 0} → IsField item bytes-of Fits → (n : ℕ) (bytes rest : List ℕ) (xs : List A) → IsBytes bytes → items_at item n bytes ≡ Some (xs, rest)
+items-take : {A : Type 0} {item : Field A} {bytes-of : A → List ℕ} {Fits : A → Type 0} → IsField item bytes-of Fits → (n : ℕ) (bytes rest : List ℕ) (xs : List A) → IsBytes bytes → next_items item n bytes ≡ Some (xs, rest)
     → Takes bytes (flat_map bytes-of xs) rest × (length xs ≡ n) × AllByRecursion Fits xs
-unfolding items_at
+unfolding next_items
 items-take {A = A} {item = item} {bytes-of = bytes-of} {Fits = Fits} law zero bytes rest xs fits e =
     subst (λ (y : List A × List ℕ). Takes bytes (flat_map bytes-of y.0) y.1 × (length y.0 ≡ 0) × AllByRecursion Fits y.0) (some_is ([], bytes) (xs, rest) e) (record { parts = refl; rest_fits = fits }, refl, tt)
 items-take {A = A} {item = item} {bytes-of = bytes-of} {Fits = Fits} law (suc n) bytes rest xs fits e =
-    let a = bind_some (item bytes) (λ first. items_at item n first.1 >>= λ others. Some (first.0 ∷ others.0, others.1)) (xs, rest) e in
-    let b = bind_some (items_at item n a.0.1) (λ others. Some (a.0.0 ∷ others.0, others.1)) (xs, rest) a.2 in
+    let a = bind_some (item bytes) (λ first. next_items item n first.1 >>= λ others. Some (first.0 ∷ others.0, others.1)) (xs, rest) e in
+    let b = bind_some (next_items item n a.0.1) (λ others. Some (a.0.0 ∷ others.0, others.1)) (xs, rest) a.2 in
     let one = law.takes bytes a.0.1 a.0.0 fits a.1 in
     let more = items-take law n a.0.1 b.0.1 b.0.0 one.0.rest_fits b.1 in
     let whole = Takes-then bytes (bytes-of a.0.0) a.0.1 (flat_map bytes-of b.0.0) b.0.1 one.0 more.0 in
     subst (λ (y : List A × List ℕ). Takes bytes (flat_map bytes-of y.0) y.1 × (length y.0 ≡ suc n) × AllByRecursion Fits y.0) (some_is (a.0.0 ∷ b.0.0, b.0.1) (xs, rest) b.2) (rw flat_map-cons whole, ap suc more.1, (one.1, more.2))
 
-items-again : {A : Type 0} {item : Field A} {bytes-of : A → List ℕ} {Fits : A → Type 0} → IsField item bytes-of Fits → (xs : List A) (rest : List ℕ) → AllByRecursion Fits xs → items_at item (length xs) (flat_map bytes-of xs ++ rest) ≡ Some (xs, rest)
-unfolding items_at
+items-again : {A : Type 0} {item : Field A} {bytes-of : A → List ℕ} {Fits : A → Type 0} → IsField item bytes-of Fits → (xs : List A) (rest : List ℕ) → AllByRecursion Fits xs → next_items item (length xs) (flat_map bytes-of xs ++ rest) ≡ Some (xs, rest)
+unfolding next_items
 items-again law [] rest fits = refl
 items-again {item = item} {bytes-of = bytes-of} law (x ∷ xs) rest fits =
     let regrouped : flat_map bytes-of (x ∷ xs) ++ rest ≡ bytes-of x ++ (flat_map bytes-of xs ++ rest) = ap (λ (y : List ℕ). y ++ rest) (flat_map-cons bytes-of x xs) ∙ append_assoc (bytes-of x) (flat_map bytes-of xs) rest in
-    ap (items_at item (suc (length xs))) regrouped ∙ rw (law.again x (flat_map bytes-of xs ++ rest) fits.0, items-again law xs rest fits.1) refl
+    ap (next_items item (suc (length xs))) regrouped ∙ rw (law.again x (flat_map bytes-of xs ++ rest) fits.0, items-again law xs rest fits.1) refl
 
 pub counted-field : {A : Type 0} {item : Field A} {bytes-of : A → List ℕ} {Fits : A → Type 0} → IsField item bytes-of Fits
     → IsField (counted item) (λ xs. length xs ∷ flat_map bytes-of xs) (λ xs. (length xs < 256) × AllByRecursion Fits xs)
 counted-field {A = A} {item = item} {bytes-of = bytes-of} {Fits = Fits} law = record {
   takes = λ bytes rest xs fits e.
-      let a = bind_some (first_byte bytes) (λ count. items_at item count.0 count.1) (xs, rest) e in
+      let a = bind_some (first_byte bytes) (λ count. next_items item count.0 count.1) (xs, rest) e in
       let s = byte-field.takes bytes a.0.1 a.0.0 fits a.1 in
       let t = items-take law a.0.0 a.0.1 rest xs s.0.rest_fits a.2 in
       let whole = Takes-then bytes (a.0.0 ∷ []) a.0.1 (flat_map bytes-of xs) rest s.0 t.0 in

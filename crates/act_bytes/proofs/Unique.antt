@@ -9,15 +9,15 @@ use Rattle.command_words.specs.declared.act.Act.{Act}
 use Rattle.command_words.specs.declared.command.Command.{Command}
 use Rattle.command_words.specs.declared.command.Command.TheVariants.{Deposit, Prepare, Split, Balance, Vault}
 use Rattle.act_bytes.specs.Spelling.{kind_of, body_bytes, spelling, Spells}
-use Rattle.act_bytes.specs.Reading.{◌>>=◌, passed, head_at, body_at, is_whole, act_in}
-use Rattle.act_bytes.specs.Fields.{IsBytes, bind_some, some_is, IsField, byte-field, u16-field, u64-field, and-field}
-use Rattle.act_bytes.specs.Bodies.{has-room, body-takes, body-again}
+use Rattle.act_bytes.specs.Reading.{◌>>=◌, passed, next_head, next_body, is_whole, act_in}
+use Rattle.act_bytes.proofs.Fields.{IsBytes, bind_some, some_is, IsField, byte-field, u16-field, u64-field, and-field}
+use Rattle.act_bytes.proofs.Bodies.{has-room, body-takes, body-again}
 
 -- the bytes of a moment, an account and the number of a kind
 abbrev head_bytes : (ℕ × ℕ) × ℕ → List ℕ
 head_bytes x = (to_be_bytes w64 x.0.0 ++ to_be_bytes w16 x.0.1) ++ x.1 ∷ []
 
-head-field : IsField head_at head_bytes (λ x. ((x.0.0 < 2 ^ 64) × (x.0.1 < 2 ^ 16)) × (x.1 < 256))
+head-field : IsField next_head head_bytes (λ x. ((x.0.0 < 2 ^ 64) × (x.0.1 < 2 ^ 16)) × (x.1 < 256))
 head-field = and-field (and-field u64-field u16-field) byte-field
 
 kind-room : (command : Command) → kind_of command < 256
@@ -33,8 +33,8 @@ act_of head body = record { moment = head.0.0; account = head.0.1; command = bod
 pub is-spelled : (bytes : List ℕ) (act : Act) → IsBytes bytes → act_in bytes ≡ Some act → Spells bytes act
 unfolding act_in spelling
 is-spelled bytes act fits e =
-    let a = bind_some (head_at bytes) (λ head. body_at head.0.1 head.1 >>= λ body. passed is_whole body >>= λ whole. Some (act_of head.0 whole)) act e in
-    let b = bind_some (body_at a.0.0.1 a.0.1) (λ body. passed is_whole body >>= λ whole. Some (act_of a.0.0 whole)) act a.2 in
+    let a = bind_some (next_head bytes) (λ head. next_body head.0.1 head.1 >>= λ body. passed is_whole body >>= λ whole. Some (act_of head.0 whole)) act e in
+    let b = bind_some (next_body a.0.0.1 a.0.1) (λ body. passed is_whole body >>= λ whole. Some (act_of a.0.0 whole)) act a.2 in
     let c = bind_some (passed is_whole b.0) (λ whole. Some (act_of a.0.0 whole)) act b.2 in
     let yes = cond_some (is_whole b.0) b.0 c.0 c.1 in
     let tests = and_parts (length b.0.1 == 0) (in_ranges b.0.0 && is_built b.0.0) yes.0 in
