@@ -7,7 +7,7 @@ use Rattle.std.proofs.lemmas.Bool.Decides.{nat_tests}
 use Rattle.std.proofs.lemmas.List.Sums.{sum_by-cons}
 use Rattle.settle_core.specs.declared.ledger_book.holding.Holding.{Holding}
 use Rattle.settle_core.specs.declared.ledger_book.posting.Posting.{Posting}
-use Rattle.settle_core.specs.Holdings.{is_at, amount_in, part_of, supply_in, posted_to, posted_in}
+use Rattle.settle_core.specs.Ledger.{is_at, amount_in, part_of, supply_in, posted_to, posted_in}
 use Rattle.command_words.specs.Keys.{Collection, same_pair, same_collection}
 use Rattle.settle_core.specs.Postings.{paid_to, taken_from, paid_to_account, taken_from_account}
 

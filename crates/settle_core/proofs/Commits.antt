@@ -9,7 +9,7 @@ use Rattle.condition_sets.specs.declared.amount.TheConstants.{MAX_AMOUNT}
 use Rattle.settle_core.specs.declared.ledger_book.holding.Holding.{Holding}
 use Rattle.settle_core.specs.declared.ledger_book.posting.Posting.{Posting}
 use Rattle.settle_core.specs.declared.ledger_book.staged.TheConstants.{MAX_VOLUME}
-use Rattle.settle_core.specs.Holdings.{amount_in, supply_in, posted_in}
+use Rattle.settle_core.specs.Ledger.{amount_in, supply_in, posted_in}
 use Rattle.command_words.specs.Keys.{Collection, same_pair, same_collection}
 use Rattle.settle_core.specs.Postings.{paid_to, taken_from, paid_to_account, taken_from_account, minted, burnt, credits, debits}
 use Rattle.settle_core.specs.Staging.{volume, IsFunded}

@@ -3,7 +3,7 @@ use Rattle.std.proofs.Common.{◌≡◌, ℕ, ◌+◌, ◌<◌, List, [], ◌∷
 use Rattle.std.specs.Prelude.{slice_get, sum_by, All}
 use Rattle.std.proofs.lemmas.Bool.{cases_lt}
 use Rattle.std.proofs.lemmas.List.{get_or_append_left, take-append-le}
-use Rattle.std.proofs.lemmas.List.Sums.{sum_by_push, sum_by-append}
+use Rattle.std.proofs.lemmas.List.Sums.{fold-append, sum_by_push, sum_by-append}
 use Rattle.std.proofs.lemmas.Option.{slice_get_within, slice_get-get_or}
 use Rattle.std.proofs.Math.Seq.{get_or-append_seam, take-append_seam}
 use Rattle.command_words.specs.declared.act.Act.{Act}
@@ -11,7 +11,7 @@ use Rattle.settle_core.specs.Askable.{IsAskable}
 use Rattle.settle_core.specs.Bounds.{Bounds}
 use Rattle.settle_core.specs.Legal.{IsAccepted, IsLegal}
 use Rattle.settle_core.specs.declared.ledger_book.posting.Posting.{Posting}
-use Rattle.settle_core.specs.Book.{book-more, conditions, prepared_by, postings, postings_of, Book}
+use Rattle.settle_core.specs.Book.{blank, book, entered, conditions, prepared_by, postings, postings_of, Book}
 use Rattle.settle_core.specs.Postings.{vault, deposit_of}
 
 -- the value in a Some
@@ -49,6 +49,10 @@ pub legal-askable : (limits : Bounds) (history : List Act) → IsLegal limits hi
 legal-askable limits history legal place act inside =
     let is = legal place (get_or history place act) (slice_get-get_or history place act inside) in
     record { makes_act = is.makes_act; in_ranges = is.in_ranges; is_built = is.is_built }
+
+-- one act more is entered behind the others
+book-more : (history : List Act) (act : Act) → book (history ++ act ∷ []) ≡ entered (book history) act
+book-more history act = fold-append entered blank history (act ∷ [])
 
 -- an act more pays its deposit into the vault
 pub vault-more : (history : List Act) (act : Act) → vault (history ++ act ∷ []) ≡ vault history + deposit_of act.command

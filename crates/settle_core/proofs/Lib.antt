@@ -10,3 +10,4 @@ mod Sums
 mod Supplies
 mod Verdicts
 mod Walks
+mod Held

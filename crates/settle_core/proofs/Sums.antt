@@ -4,7 +4,7 @@ use Rattle.std.specs.Prelude.{◌==◌, ◌&&◌, cond}
 use Rattle.std.proofs.lemmas.List.Sums.{sum_by-le-sum_by, sum_by-cons}
 use Rattle.settle_core.specs.declared.ledger_book.holding.Holding.{Holding}
 use Rattle.settle_core.specs.declared.ledger_book.posting.Posting.{Posting}
-use Rattle.settle_core.specs.Holdings.{is_at, amount_in, part_of, supply_in}
+use Rattle.settle_core.specs.Ledger.{is_at, amount_in, part_of, supply_in}
 use Rattle.command_words.specs.Keys.{Collection, same_collection}
 use Rattle.settle_core.specs.Postings.{paid_to, taken_from, paid_to_account, taken_from_account, minted, burnt, credits, debits}
 use Rattle.settle_core.specs.Staging.{volume}

@@ -1,6 +1,6 @@
 -- What follows from a verdict.
-use Rattle.std.proofs.Common.{◌≡◌, ℕ, ◌+◌, ◌<◌, ◌≤◌, List, [], ◌∷◌, length, Option, Some, None, refl, arith, zero, suc, Bool, true, false}
-use Rattle.std.specs.Prelude.{slice_get, nat_le, ◌&&◌, option_map, Err}
+use Rattle.std.proofs.Common.{◌≡◌, ℕ, ◌+◌, ◌<◌, ◌≤◌, List, [], ◌∷◌, length, Option, Some, None, refl, subst, arith, zero, suc, Bool, true, false}
+use Rattle.std.specs.Prelude.{slice_get, nat_le, nat_lt, ◌&&◌, option_map, Err}
 use Rattle.std.proofs.lemmas.Bool.Decides.{nat_tests}
 use Rattle.condition_sets.specs.declared.amount.TheConstants.{MAX_AMOUNT}
 use Rattle.command_words.specs.declared.command.Command.{Command}
@@ -8,10 +8,11 @@ use Rattle.command_words.specs.declared.command.Command.TheVariants.{Deposit, Pr
 use Rattle.command_words.specs.declared.refusal.Refusal.{Refusal}
 use Rattle.command_words.specs.declared.refusal.Refusal.TheVariants.{NotAllowed, NoCondition, AlreadyPrepared, TableFull, Unfunded, VaultLimit, SupplyLimit, HistoryFull, Memory}
 use Rattle.command_words.specs.Command.{makes_act}
+use Rattle.command_words.specs.Keys.{Collection, root}
 use Rattle.settle_core.specs.Book.{conditions, postings_of}
-use Rattle.settle_core.specs.Postings.{supply, vault, deposit_of}
+use Rattle.settle_core.specs.Postings.{balance, supply, vault, deposit_of}
 use Rattle.settle_core.specs.Staging.{oversupplied}
-use Rattle.settle_core.specs.Verdict.{Question, verdict, where_, first_some, refusals, prepares_again, already_prepared, is_above_table, table_full, is_above_vault, vault_limit, supply_limit, history_full, AnsweredBy}
+use Rattle.settle_core.specs.Verdict.{Question, verdict, where_, first_some, refusals, prepares_again, already_prepared, is_above_table, table_full, shortage, unfunded, is_above_vault, vault_limit, supply_limit, history_full, AnsweredBy}
 
 -- a call that refuses by the verdict is answered by it
 pub answered-err : (X : Type 0) (given : Option Refusal) (refusal : Refusal) → given ≡ Some refusal → AnsweredBy {X = X} given (Err refusal)
@@ -80,3 +81,12 @@ map-none f (Some x) none = cc
 pub accepted-supply : (q : Question) → verdict q ≡ None → oversupplied (supply q.history) (postings_of q.account q.command) ≡ None
 unfolding verdict
 accepted-supply q none = map-none SupplyLimit (oversupplied (supply q.history) (postings_of q.account q.command)) (first_some-none (refusals q) 6 (supply_limit q) none refl)
+
+-- an accepted split takes cash that is there
+pub accepted-split : (q : Question) (parent : Collection) (condition : ℕ) (sets : List ℕ) (amount : ℕ) → verdict q ≡ None → q.command ≡ Split parent condition sets amount → amount ≤ balance q.history q.account root
+unfolding verdict
+accepted-split q parent condition sets amount none is =
+    let funded : shortage q.history q.account q.command ≡ None = first_some-none (refusals q) 4 (unfunded q) none refl in
+    let here : shortage q.history q.account (Split parent condition sets amount) ≡ None = subst (λ (c : Command). shortage q.history q.account c ≡ None) is funded in
+    let enough : nat_lt (balance q.history q.account root) amount ≡ false = where_-none _ (Unfunded (balance q.history q.account root) 0) here in
+    grind (arith, nat_tests, enough)

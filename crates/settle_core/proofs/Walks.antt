@@ -6,7 +6,7 @@ use Rattle.std.proofs.lemmas.Option.{slice_get-get_or}
 use Rattle.std.proofs.Math.Seq.{drop-cons}
 use Rattle.settle_core.specs.declared.ledger_book.holding.Holding.{Holding}
 use Rattle.settle_core.specs.declared.ledger_book.posting.Posting.{Posting}
-use Rattle.settle_core.specs.Holdings.{is_at, amount_in, posted_to, posted_in}
+use Rattle.settle_core.specs.Ledger.{is_at, amount_in, posted_to, posted_in}
 use Rattle.command_words.specs.Keys.{Collection}
 
 -- the balances from a place on begin with the one there

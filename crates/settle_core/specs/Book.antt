@@ -1,7 +1,6 @@
 -- What is read off a history, in one go over its acts: the conditions, and what was posted.
 -- Source: Gnosis Conditional Tokens, developer documentation.
-use Rattle.std.specs.Prelude.{◌≡◌, ℕ, List, [], ◌∷◌, ◌++◌, fold, map}
-use Rattle.std.proofs.lemmas.List.Sums.{fold-append}
+use Rattle.std.specs.Prelude.{ℕ, List, [], ◌∷◌, ◌++◌, fold, map}
 use Rattle.command_words.specs.declared.command.Command.{Command}
 use Rattle.command_words.specs.declared.command.Command.TheVariants.{Deposit, Prepare, Split, Balance, Vault}
 use Rattle.command_words.specs.declared.act.Act.{Act}
@@ -61,7 +60,3 @@ conditions history = (book history).conditions
 -- what the history posted
 abbrev pub postings : List Act → List Posting
 postings history = (book history).postings
-
--- one act more is entered behind the others
-pub book-more : (history : List Act) (act : Act) → book (history ++ act ∷ []) ≡ entered (book history) act
-book-more history act = fold-append entered blank history (act ∷ [])

@@ -5,15 +5,15 @@ use Rattle.command_words.specs.declared.act.TheConstants.{MAX_HISTORY}
 use Rattle.command_words.specs.declared.act.Act.{Act}
 use Rattle.settle_core.specs.Book.{conditions, postings}
 use Rattle.settle_core.specs.Bounds.{Bounds}
-use Rattle.settle_core.specs.Holdings.{Holdings, amount_at, supply_at}
+use Rattle.settle_core.specs.Ledger.{LedgerView, amount_at, supply_at}
 use Rattle.command_words.specs.Keys.{Collection}
 use Rattle.settle_core.specs.Legal.{IsLegal}
 use Rattle.settle_core.specs.Postings.{vault, credits, debits, minted, burnt}
-use Rattle.settle_core.specs.Table.{Table}
+use Rattle.settle_core.specs.Conditions.{ConditionsView}
 
 -- The history is legal and within its limit, and the table and the ledger are what the history gives: with what was
 -- taken, each balance and each supply is what was paid.
-pub record IsKept (limits : Bounds) (table : Table) (ledger : Holdings) (history : List Act) : Type 0 where
+pub record IsKept (limits : Bounds) (table : ConditionsView) (ledger : LedgerView) (history : List Act) : Type 0 where
   pub legal : IsLegal limits history
   pub within : length history ≤ limits.history
   pub bounded : limits.history ≤ MAX_HISTORY

@@ -1,6 +1,6 @@
 -- What accounts hold, by what was posted to them.
 -- Source: Gnosis Conditional Tokens, developer documentation.
-use Rattle.std.specs.Prelude.{◌==◌, ℕ, ◌-◌, List, sum_by, if◌then◌else◌}
+use Rattle.std.specs.Prelude.{◌==◌, ℕ, zero, suc, ◌+◌, ◌-◌, ◌^◌, List, sum_by, if◌then◌else◌}
 use Rattle.command_words.specs.declared.command.Command.{Command}
 use Rattle.command_words.specs.declared.command.Command.TheVariants.{Deposit, Prepare, Split, Balance, Vault}
 use Rattle.command_words.specs.declared.act.Act.{Act}
@@ -43,6 +43,15 @@ supply history k = minted (postings history) k - burnt (postings history) k
 -- what one account holds of a collection: all that was paid to it, less all that was taken
 abbrev pub balance : List Act → ℕ → Collection → ℕ
 balance history a k = credits (postings history) a k - debits (postings history) a k
+
+-- the sum over the accounts below a number
+unfoldable pub over_accounts : ℕ → (ℕ → ℕ) → ℕ
+over_accounts zero f = 0
+over_accounts (suc n) f = over_accounts n f + f n
+
+-- what all accounts together hold of a collection, of which there are 2^16
+abbrev pub held_by_all : List Act → Collection → ℕ
+held_by_all history k = over_accounts (2 ^ 16) (λ a. balance history a k)
 
 -- what a command pays into the vault where it is accepted
 abbrev pub deposit_of : Command → ℕ

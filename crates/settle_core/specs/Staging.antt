@@ -1,4 +1,4 @@
--- Changes that are planned before they are carried out: what they post, and whether that may be.
+-- StagedView that are planned before they are carried out: what they post, and whether that may be.
 use Rattle.std.specs.Prelude.{◌≡◌, ℕ, ◌+◌, ◌-◌, ◌<◌, ◌≤◌, ⊤, suc, ℤ, pos, negsuc, ◌+ℤ◌, ◌≤ℤ◌, ◌<ℤ◌, ◌&&◌, Bool, true, nat_lt, if◌then◌else◌, List, [], ◌∷◌, sum_by, take, Option, Some, None, option_map, Result, Ok, Err}
 use Rattle.std.specs.Ordering.{ordering_then, nat_cmp, is_lt}
 use Rattle.std.specs.declared.cmp.Ordering.{Ordering}
@@ -14,7 +14,7 @@ use Rattle.command_words.specs.Keys.{Collection}
 use Rattle.settle_core.specs.Postings.{minted, burnt, credits, debits}
 
 -- what contracts see of staged changes: the postings in their order, and the change of the vault
-pub record Changes : Type 0 where
+pub record StagedView : Type 0 where
   pub postings : List Posting
   pub vault : ℤ
 

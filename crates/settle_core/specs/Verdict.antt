@@ -15,7 +15,7 @@ use Rattle.command_words.specs.Command.{makes_act}
 use Rattle.command_words.specs.Keys.{root}
 use Rattle.settle_core.specs.Postings.{balance, supply, vault}
 use Rattle.settle_core.specs.Staging.{oversupplied}
-use Rattle.settle_core.specs.Table.{place_of}
+use Rattle.settle_core.specs.Conditions.{place_of}
 
 -- what is asked, by whom and when, and of which history within which limits
 pub record Question : Type 0 where

@@ -7,7 +7,7 @@ ghost use Rattle.condition_sets.specs.declared.slot_count.TheConstants.{MIN_SLOT
 ghost use Rattle.command_words.specs.declared.command.TheConstants.{MAX_SETS};
 ghost use Rattle.command_words.specs.Command.{makes_act, in_ranges, is_built};
 ghost use Rattle.settle_core.specs.Book.{conditions, prepared_by};
-ghost use Rattle.settle_core.specs.Holdings.{amount_at, supply_at};
+ghost use Rattle.settle_core.specs.Ledger.{amount_at, supply_at};
 ghost use Rattle.command_words.specs.Keys.{Collection};
 ghost use Rattle.settle_core.specs.Legal.{IsLegal};
 ghost use Rattle.std.specs.List.{list_any};
@@ -15,7 +15,7 @@ ghost use Rattle.settle_core.specs.Postings.{vault, balance, supply};
 ghost use Rattle.settle_core.specs.Askable.{IsAskable};
 ghost use Rattle.settle_core.specs.Reply.{act_of, accepted_reply, reply_to};
 ghost use Rattle.command_words.specs.Reply.{IsSound};
-ghost use Rattle.settle_core.specs.State.{State, asked, IsSame, AreChangesOf, IsPlanFor};
+ghost use Rattle.settle_core.specs.Exchange.{ExchangeView, asked, IsSame, AreChangesOf, IsPlanFor};
 ghost use Rattle.settle_core.specs.Staging.{oversupplied};
 ghost use Rattle.settle_core.specs.Verdict.{verdict, where_, first_some, prepares_again, is_above_table, AnsweredBy};
 
@@ -46,9 +46,9 @@ pub struct Exchange {
 
 impl Model for Exchange {
     ghost use Rattle.std.specs.Prelude.{◌-◌, min, vec_len, vec_capacity};
-    ghost use Rattle.settle_core.specs.State.{State};
+    ghost use Rattle.settle_core.specs.Exchange.{ExchangeView};
 
-    ghost Value = { State };
+    ghost Value = { ExchangeView };
 
     ghost use Rattle.settle_core.specs.Kept.{IsKept};
 

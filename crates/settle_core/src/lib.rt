@@ -21,6 +21,3 @@ pub use limits::Limits;
 pub use plan::Plan;
 pub use replay::ReplayFault;
 pub use split_merge::{PlanFault, plan_split};
-
-#[cfg(test)]
-mod tests;

@@ -14,9 +14,9 @@ pub struct Plan {
 }
 
 impl Model for Plan {
-    ghost use Rattle.settle_core.specs.Planned.{Planned};
+    ghost use Rattle.settle_core.specs.Plan.{PlanView};
 
-    ghost Value = { Planned };
+    ghost Value = { PlanView };
 
     ghost view = { λ p. record { act = p.act; copy = p.copy; changes = p.changes; reply = p.reply } };
 }

@@ -3,7 +3,7 @@ ghost use Rattle.command_words.specs.declared.act.TheConstants.{MAX_HISTORY};
 ghost use Rattle.settle_core.specs.Legal.{IsAccepted, IsLegal};
 ghost use Rattle.settle_core.specs.Replay.{IsStopped, IsNoHistory};
 ghost use Rattle.settle_core.specs.Askable.{IsAskable};
-ghost use Rattle.settle_core.specs.State.{IsSame};
+ghost use Rattle.settle_core.specs.Exchange.{IsSame};
 ghost use Rattle.settle_core.specs.declared.replay.ReplayFault.TheVariants.{Memory};
 
 use crate::exchange::Exchange;

@@ -2,7 +2,7 @@ ghost use Rattle.std.specs.Prelude.{◌≡◌, ℕ, ◌+◌, ◌≤◌, [], ◌�
 ghost use Rattle.condition_sets.specs.declared.amount.TheConstants.{MAX_AMOUNT};
 ghost use Rattle.settle_core.specs.declared.ledger_book.staged.TheConstants.{MAX_VOLUME};
 ghost use Rattle.settle_core.specs.Book.{credit, split_postings};
-ghost use Rattle.settle_core.specs.Holdings.{amount_at};
+ghost use Rattle.settle_core.specs.Ledger.{amount_at};
 ghost use Rattle.command_words.specs.Keys.{Collection, root, set_of};
 ghost use Rattle.settle_core.specs.Staging.{volume, IsFunded};
 ghost use Rattle.command_words.specs.declared.command.TheConstants.{MAX_SETS};

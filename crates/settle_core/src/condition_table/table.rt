@@ -1,6 +1,6 @@
 ghost use Rattle.std.specs.Prelude.{◌≡◌, ◌+◌, ◌<◌, ◌≤◌, [], ◌∷◌, ◌++◌, length, slice_get, None, IfOk, IfSome, OnOk, OnErr};
 ghost use Rattle.condition_sets.specs.declared.names.TheConstants.{MAX_CONDITION};
-ghost use Rattle.settle_core.specs.Table.{Table, place_of};
+ghost use Rattle.settle_core.specs.Conditions.{ConditionsView, place_of};
 
 use crate::condition_table::facts::Facts;
 use condition_sets::{AccountId, ConditionId, NoMemory, SlotCount};
@@ -19,9 +19,9 @@ pub struct Conditions {
 impl Model for Conditions {
     ghost use Rattle.std.specs.Prelude.{◌-◌, ◌≤◌, vec_len, vec_capacity};
     ghost use Rattle.condition_sets.specs.declared.names.TheConstants.{MAX_CONDITION};
-    ghost use Rattle.settle_core.specs.Table.{Table};
+    ghost use Rattle.settle_core.specs.Conditions.{ConditionsView};
 
-    ghost Value = { Table };
+    ghost Value = { ConditionsView };
 
     ghost view = { λ c. record { facts = c.facts.items; limit = c.limit; room = vec_capacity c.facts - vec_len c.facts } };
 

@@ -3,7 +3,7 @@ ghost use Rattle.std.specs.Result.{result_err};
 ghost use Rattle.condition_sets.specs.declared.amount.TheConstants.{MAX_AMOUNT};
 ghost use Rattle.settle_core.specs.declared.ledger_book.staged.TheConstants.{MAX_VOLUME};
 ghost use Rattle.settle_core.specs.declared.ledger_book.ledger.LedgerFull.TheVariants.{Supply};
-ghost use Rattle.settle_core.specs.Holdings.{Holdings, HoldSame, amount_at, amount_in, supply_at, supply_in, is_at, posted_in};
+ghost use Rattle.settle_core.specs.Ledger.{LedgerView, HoldSame, amount_at, amount_in, supply_at, supply_in, is_at, posted_in};
 ghost use Rattle.command_words.specs.Keys.{Collection};
 ghost use Rattle.settle_core.specs.Postings.{minted, burnt, credits, debits};
 ghost use Rattle.settle_core.specs.Staging.{volume, IsFunded, oversupplied, is_above_supply, least_from, comes_before};
@@ -34,11 +34,11 @@ pub enum LedgerFull {
 
 impl Model for Ledger {
     ghost use Rattle.std.specs.Prelude.{ℕ, ◌-◌, ◌≤◌, vec_len, vec_capacity};
-    ghost use Rattle.settle_core.specs.Holdings.{Holdings, supply_in};
+    ghost use Rattle.settle_core.specs.Ledger.{LedgerView, supply_in};
     ghost use Rattle.command_words.specs.Keys.{Collection};
     ghost use Rattle.condition_sets.specs.declared.amount.TheConstants.{MAX_AMOUNT};
 
-    ghost Value = { Holdings };
+    ghost Value = { LedgerView };
 
     ghost view = { λ l. record { balances = l.balances.items; vault = l.vault; room = vec_capacity l.balances - vec_len l.balances } };
 

@@ -1,7 +1,7 @@
 ghost use Rattle.std.specs.Prelude.{◌≡◌, ℕ, ℤ, pos, ◌+◌, ◌-◌, ◌≤◌, ◌+ℤ◌, ◌-ℤ◌, ◌≤ℤ◌, neg_ℤ, nat_abs, [], ◌∷◌, ◌++◌, IfOk, OnOk, OnErr};
 ghost use Rattle.condition_sets.specs.declared.amount.TheConstants.{MAX_AMOUNT};
 ghost use Rattle.settle_core.specs.Book.{credit, debit};
-ghost use Rattle.settle_core.specs.Holdings.{amount_at};
+ghost use Rattle.settle_core.specs.Ledger.{amount_at};
 ghost use Rattle.command_words.specs.Keys.{Collection};
 ghost use Rattle.settle_core.specs.Postings.{credits, debits, minted, burnt};
 ghost use Rattle.settle_core.specs.Staging.{volume, left_at, signed_posting, IsFunded, DebitedBy, PostedBy};
@@ -16,7 +16,7 @@ use std::marker::Model;
 /// The most that the postings of one command may move together, in collateral units and shares.
 pub const MAX_VOLUME: u64 = 1_000_000_000_000_000_000;
 
-/// Changes of a ledger that are planned and not yet carried out. Dropping them changes nothing.
+/// StagedView of a ledger that are planned and not yet carried out. Dropping them changes nothing.
 ///
 /// Contracts see the postings in their order and the change of the vault.
 #[derive(Drop)]
@@ -45,9 +45,9 @@ pub enum PostFault {
 }
 
 impl Model for Staged {
-    ghost use Rattle.settle_core.specs.Staging.{Changes};
+    ghost use Rattle.settle_core.specs.Staging.{StagedView};
 
-    ghost Value = { Changes };
+    ghost Value = { StagedView };
 
     ghost view = { λ s. record { postings = s.postings.items; vault = s.vault } };
 

@@ -1,4 +1,4 @@
-use Rattle.settle_core.specs.Holdings.{amount_at}
+use Rattle.settle_core.specs.Ledger.{amount_at}
 use Rattle.settle_core.proofs.split_merge.plan_split.Goals as goal
 
 pub returns-in-Ok-credit_sets-clause-funded : goal.returns-in-Ok-credit_sets-clause-funded

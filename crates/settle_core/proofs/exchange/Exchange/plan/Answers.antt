@@ -1,7 +1,7 @@
 use Rattle.std.proofs.Common.{◌≡◌, List, false, sym, subst}
 use Rattle.command_words.specs.declared.act.Act.{Act}
 use Rattle.settle_core.specs.Book.{conditions}
-use Rattle.settle_core.specs.State.{State, asked}
+use Rattle.settle_core.specs.Exchange.{ExchangeView, asked}
 use Rattle.settle_core.specs.Verdict.{is_above_table}
 use Rattle.settle_core.proofs.KeptLemmas.{kept-same, hold-same}
 use Rattle.settle_core.proofs.Verdicts.{accepted-table}
@@ -22,5 +22,5 @@ invariant_of-self-2 c =
 pub accepted_reply-reply-requires-clause-fits : goal.accepted_reply-reply-requires-clause-fits
 accepted_reply-reply-requires-clause-fits c =
     let fits = accepted-table (asked c.args.self.now c.args.account c.args.command.now c.args.now) c.in_ok-changes.ensures.verdict in
-    let here = subst (λ (s : State). is_above_table s.limits.conditions (conditions s.history) c.args.command.now ≡ false) (sym c.self.view_is) fits in
+    let here = subst (λ (s : ExchangeView). is_above_table s.limits.conditions (conditions s.history) c.args.command.now ≡ false) (sym c.self.view_is) fits in
     subst (λ (h : List Act). is_above_table c.self.inside.limits.conditions (conditions h) c.args.command.now ≡ false) (sym c.in_ok-reserve.ensures.items) here

@@ -4,7 +4,7 @@ use Rattle.command_words.specs.declared.act.Act.{Act}
 use Rattle.settle_core.specs.Bounds.{Bounds}
 use Rattle.settle_core.specs.Legal.{IsLegal}
 use Rattle.settle_core.specs.Replay.{IsStopped, IsFirstRefused, IsNoHistory}
-use Rattle.settle_core.specs.State.{State, IsSame}
+use Rattle.settle_core.specs.Exchange.{ExchangeView, IsSame}
 use Rattle.settle_core.specs.declared.replay.ReplayFault.{ReplayFault}
 use Rattle.settle_core.specs.declared.replay.ReplayFault.TheVariants.{Illegal, Memory}
 use Rattle.settle_core.proofs.exchange.Exchange.replay.Goals as goal
@@ -27,13 +27,13 @@ never : (limits : Bounds) (acts : List Act) (fault : ReplayFault) → IsNoHistor
 never limits acts (Illegal lsn code) first legal = let both = sym (legal lsn first.act first.placed).accepted ∙ first.refused.refused in cc
 never limits acts Memory first legal = refl
 
-same-legal : (old new : State) → IsSame old new → IsLegal new.limits new.history → IsLegal old.limits old.history
+same-legal : (old new : ExchangeView) → IsSame old new → IsLegal new.limits new.history → IsLegal old.limits old.history
 same-legal old new same legal =
     subst (λ (b : Bounds). IsLegal b old.history) same.limits (subst (λ (h : List Act). IsLegal new.limits h) same.history legal)
 
 pub returns-in-Err-redo-clause-illegal : goal.returns-in-Err-redo-clause-illegal
 returns-in-Err-redo-clause-illegal c =
-    let now : IsLegal c.redo.new.self.limits c.redo.new.self.history = subst (λ (s : State). IsLegal s.limits s.history) c.exchange.view_is c.exchange.invariant.legal in
+    let now : IsLegal c.redo.new.self.limits c.redo.new.self.history = subst (λ (s : ExchangeView). IsLegal s.limits s.history) c.exchange.view_is c.exchange.invariant.legal in
     let before = same-legal c.loop-act.exchange c.redo.new.self c.in-Err-redo.ensures.same now in
     let legal = subst (λ (h : List Act). IsLegal c.args.limits h) c.loop-act.invariant.history (subst (λ (b : Bounds). IsLegal b c.loop-act.exchange.history) c.loop-act.invariant.limits before) in
     let stop = subst (λ (h : List Act). IsStopped c.args.limits h c.act-item.result c.in-Err-redo.fault) c.loop-act.invariant.history (subst (λ (b : Bounds). IsStopped b c.loop-act.exchange.history c.act-item.result c.in-Err-redo.fault) c.loop-act.invariant.limits c.in-Err-redo.ensures.stopped) in

@@ -1,5 +1,5 @@
 use Rattle.std.proofs.Common.{◌≡◌, drop}
-use Rattle.settle_core.specs.Holdings.{amount_in}
+use Rattle.settle_core.specs.Ledger.{amount_in}
 use Rattle.settle_core.proofs.ledger_book.ledger.amount_in.Given as goal
 
 abbrev pub invariant-loop-holding : goal.invariant-loop-holding

@@ -2,7 +2,7 @@ use Rattle.std.proofs.Common.{ℕ, ◌+◌, ◌≤◌, ◌++◌, ◌∷◌, [], 
 use Rattle.condition_sets.specs.declared.amount.TheConstants.{MAX_AMOUNT}
 use Rattle.settle_core.specs.declared.ledger_book.holding.Holding.{Holding}
 use Rattle.settle_core.specs.declared.ledger_book.posting.Posting.{Posting}
-use Rattle.settle_core.specs.Holdings.{amount_in, supply_in}
+use Rattle.settle_core.specs.Ledger.{amount_in, supply_in}
 use Rattle.command_words.specs.Keys.{Collection}
 use Rattle.settle_core.specs.Postings.{burnt, debits}
 use Rattle.settle_core.proofs.Commits.{next_funded, next_fits, amounts_more, supplies_more}

@@ -1,6 +1,6 @@
 use Rattle.std.proofs.Common.{◌≡◌, ℕ, ◌+◌, ◌-◌, ◌≤◌, ◌++◌, length}
 use Rattle.std.specs.Prelude.{vec_len, vec_capacity}
-use Rattle.settle_core.specs.Holdings.{amount_in, supply_in}
+use Rattle.settle_core.specs.Ledger.{amount_in, supply_in}
 use Rattle.command_words.specs.Keys.{Collection}
 use Rattle.settle_core.specs.Postings.{minted, burnt, credits, debits}
 use Rattle.settle_core.proofs.ledger_book.ledger.post_all.Given as goal

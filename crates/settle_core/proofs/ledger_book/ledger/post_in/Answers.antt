@@ -1,5 +1,5 @@
 use Rattle.std.proofs.Common.{◌<◌, length, get_or, sym, ◌∙◌, ap, arith}
-use Rattle.settle_core.specs.Holdings.{is_at}
+use Rattle.settle_core.specs.Ledger.{is_at}
 use Rattle.command_words.specs.Keys.{Collection}
 use Rattle.settle_core.proofs.Walks.{posted_in-at}
 use Rattle.settle_core.proofs.ledger_book.ledger.post_in.Goals as goal

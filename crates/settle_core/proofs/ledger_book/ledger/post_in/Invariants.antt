@@ -1,5 +1,5 @@
 use Rattle.std.proofs.Common.{◌≡◌, ◌++◌, take, drop}
-use Rattle.settle_core.specs.Holdings.{amount_in, posted_in}
+use Rattle.settle_core.specs.Ledger.{amount_in, posted_in}
 use Rattle.settle_core.proofs.ledger_book.ledger.post_in.Given as goal
 
 abbrev pub invariant-loop-place : goal.invariant-loop-place

@@ -1,6 +1,6 @@
 use Rattle.std.proofs.Common.{◌≡◌, drop}
 use Rattle.std.specs.Prelude.{None, option_map}
-use Rattle.settle_core.specs.Holdings.{supply_at}
+use Rattle.settle_core.specs.Ledger.{supply_at}
 use Rattle.settle_core.specs.Staging.{is_above_supply, least_from}
 use Rattle.settle_core.proofs.ledger_book.ledger.Ledger.admits.Given as goal
 

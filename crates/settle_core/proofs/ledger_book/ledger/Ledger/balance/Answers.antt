@@ -1,5 +1,5 @@
 use Rattle.std.proofs.Common.{arith, ap}
-use Rattle.settle_core.specs.Holdings.{amount_in}
+use Rattle.settle_core.specs.Ledger.{amount_in}
 use Rattle.settle_core.proofs.Sums.{amount_within}
 use Rattle.settle_core.proofs.ledger_book.ledger.Ledger.balance.Goals as goal
 

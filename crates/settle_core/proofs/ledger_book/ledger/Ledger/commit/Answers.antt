@@ -1,6 +1,6 @@
 use Rattle.std.proofs.Common.{◌≡◌, ◌+◌, List, None, sym, subst, arith}
 use Rattle.settle_core.specs.declared.ledger_book.posting.Posting.{Posting}
-use Rattle.settle_core.specs.Holdings.{Holdings, supply_at, supply_in}
+use Rattle.settle_core.specs.Ledger.{LedgerView, supply_at, supply_in}
 use Rattle.command_words.specs.Keys.{Collection}
 use Rattle.settle_core.specs.Postings.{minted, burnt}
 use Rattle.settle_core.specs.Staging.{oversupplied}
@@ -9,7 +9,7 @@ use Rattle.settle_core.proofs.ledger_book.ledger.Ledger.commit.Goals as goal
 
 pub invariant_of-self : goal.invariant_of-self
 invariant_of-self c =
-    let admitted = subst (λ (l : Holdings). oversupplied (supply_at l) c.args.staged.postings ≡ None) (sym c.self.view_is) c.requires.admitted in
+    let admitted = subst (λ (l : LedgerView). oversupplied (supply_at l) c.args.staged.postings ≡ None) (sym c.self.view_is) c.requires.admitted in
     let postings = c.into_parts-postings.ensures.postings in (
       c.changed-self-inside.ensures.within,
       λ k.

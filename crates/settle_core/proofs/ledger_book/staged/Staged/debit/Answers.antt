@@ -1,5 +1,5 @@
 use Rattle.std.proofs.Common.{arith}
-use Rattle.settle_core.specs.Holdings.{amount_at}
+use Rattle.settle_core.specs.Ledger.{amount_at}
 use Rattle.settle_core.proofs.Sums.{credits_within}
 use Rattle.settle_core.proofs.Funding.{funded-all, funded-more}
 use Rattle.settle_core.proofs.ledger_book.staged.Staged.debit.Goals as goal

@@ -1,4 +1,4 @@
-use Rattle.settle_core.specs.Holdings.{amount_at}
+use Rattle.settle_core.specs.Ledger.{amount_at}
 use Rattle.settle_core.proofs.ledger_book.staged.Staged.post.Goals as goal
 
 pub returns-in-Ok-credit-clause-funded : goal.returns-in-Ok-credit-clause-funded

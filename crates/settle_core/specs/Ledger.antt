@@ -5,7 +5,7 @@ use Rattle.settle_core.specs.declared.ledger_book.holding.Holding.{Holding}
 use Rattle.settle_core.specs.declared.ledger_book.posting.Posting.{Posting}
 
 -- the balances, what the vault holds, and for how many balances more there is room
-pub record Holdings : Type 0 where
+pub record LedgerView : Type 0 where
   pub balances : List Holding
   pub vault : ℕ
   pub room : ℕ
@@ -19,7 +19,7 @@ abbrev pub amount_in : ℕ → Collection → List Holding → ℕ
 amount_in a k [] = 0
 amount_in a k (h ∷ hs) = if is_at a k h then h.amount else amount_in a k hs
 
-abbrev pub amount_at : Holdings → ℕ → Collection → ℕ
+abbrev pub amount_at : LedgerView → ℕ → Collection → ℕ
 amount_at l a k = amount_in a k l.balances
 
 -- what a balance adds to the supply of a collection
@@ -30,11 +30,11 @@ part_of k h = if same_collection h.collection k then h.amount else 0
 abbrev pub supply_in : Collection → List Holding → ℕ
 supply_in k hs = sum_by (part_of k) hs
 
-abbrev pub supply_at : Holdings → Collection → ℕ
+abbrev pub supply_at : LedgerView → Collection → ℕ
 supply_at l k = supply_in k l.balances
 
 -- two ledgers hold the same, whatever their room
-pub record HoldSame (old new : Holdings) : Type 0 where
+pub record HoldSame (old new : LedgerView) : Type 0 where
   pub balances : (a : ℕ) (k : Collection) → amount_at new a k ≡ amount_at old a k
   pub supplies : (k : Collection) → supply_at new k ≡ supply_at old k
   pub vault : new.vault ≡ old.vault

@@ -2,11 +2,11 @@
 use Rattle.std.specs.Prelude.{Option}
 use Rattle.command_words.specs.declared.act.Act.{Act}
 use Rattle.command_words.specs.declared.reply.Reply.{Reply}
-use Rattle.settle_core.specs.Staging.{Changes}
+use Rattle.settle_core.specs.Staging.{StagedView}
 
 -- the act to be, the copy of it until that is taken, the changes that it makes, and the reply
-pub record Planned : Type 0 where
+pub record PlanView : Type 0 where
   pub act : Act
   pub copy : Option Act
-  pub changes : Changes
+  pub changes : StagedView
   pub reply : Reply

@@ -5,37 +5,37 @@ use Rattle.command_words.specs.declared.act.Act.{Act}
 use Rattle.settle_core.specs.Book.{postings_of}
 use Rattle.settle_core.specs.Bounds.{Bounds}
 use Rattle.settle_core.specs.Legal.{IsAccepted}
-use Rattle.settle_core.specs.Planned.{Planned}
+use Rattle.settle_core.specs.Plan.{PlanView}
 use Rattle.settle_core.specs.Postings.{balance, deposit_of}
 use Rattle.settle_core.specs.Reply.{accepted_reply}
-use Rattle.settle_core.specs.Staging.{Changes, IsFunded}
+use Rattle.settle_core.specs.Staging.{StagedView, IsFunded}
 use Rattle.settle_core.specs.Verdict.{Question}
 
 -- its limits, its history, and for how many acts and how many postings more it has room without taking memory
-pub record State : Type 0 where
+pub record ExchangeView : Type 0 where
   pub limits : Bounds
   pub history : List Act
   pub room : ℕ
   pub places : ℕ
 
 -- a command of an account at a moment, asked of the exchange
-abbrev pub asked : State → ℕ → Command → ℕ → Question
+abbrev pub asked : ExchangeView → ℕ → Command → ℕ → Question
 asked state account command moment =
     record { limits = state.limits; history = state.history; account = account; command = command; moment = moment }
 
 -- the same exchange, whatever its room
-pub record IsSame (old new : State) : Type 0 where
+pub record IsSame (old new : ExchangeView) : Type 0 where
   pub limits : new.limits ≡ old.limits
   pub history : new.history ≡ old.history
 
 -- the changes are those of a command of an account over a history, and what they take is there
-pub record AreChangesOf (history : List Act) (account : ℕ) (command : Command) (changes : Changes) : Type 0 where
+pub record AreChangesOf (history : List Act) (account : ℕ) (command : Command) (changes : StagedView) : Type 0 where
   pub postings : changes.postings ≡ postings_of account command
   pub vault : changes.vault ≡ pos (deposit_of command)
   pub funded : IsFunded (balance history) changes.postings
 
 -- the plan is of an accepted command of the present history, with its changes and the reply to it, and there is room for it
-pub record IsPlanFor (state : State) (plan : Planned) : Type 0 where
+pub record IsPlanFor (state : ExchangeView) (plan : PlanView) : Type 0 where
   pub accepted : IsAccepted state.limits state.history plan.act
   pub changes : AreChangesOf state.history plan.act.account plan.act.command plan.changes
   pub reply : plan.reply ≡ accepted_reply state.history plan.act.command

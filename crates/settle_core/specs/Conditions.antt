@@ -4,15 +4,15 @@ use Rattle.std.specs.Prelude.{◌==◌, ℕ, ◌&&◌, Bool, List, Option, posit
 use Rattle.settle_core.specs.declared.condition_table.facts.Facts.{Facts}
 
 -- what contracts see of a table: the facts of the conditions by their numbers, how many there may be, and the room
-pub record Table : Type 0 where
+pub record ConditionsView : Type 0 where
   pub facts : List Facts
   pub limit : ℕ
   pub room : ℕ
 
 -- whether two conditions are the same one
-abbrev pub is_same : Facts → Facts → Bool
-is_same a b = (b.oracle == a.oracle) && ((b.question == a.question) && (b.slots == a.slots))
+abbrev pub same_facts : Facts → Facts → Bool
+same_facts a b = (b.oracle == a.oracle) && ((b.question == a.question) && (b.slots == a.slots))
 
 -- the number of the condition of these facts, where it is prepared
 abbrev pub place_of : Facts → List Facts → Option ℕ
-place_of facts table = position (is_same facts) table
+place_of facts table = position (same_facts facts) table
