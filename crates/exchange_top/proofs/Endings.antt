@@ -13,7 +13,7 @@ use Rattle.settle_core.specs.Bounds.{standard}
 use Rattle.exchange_top.specs.EndText.{end_text}
 use Rattle.exchange_top.specs.Holds.{Holds, HoldsFront}
 use Rattle.exchange_top.specs.Recovery.{Stops, IsExcused, status_of}
-use Rattle.exchange_top.specs.Run.{Ran, Served, Says, IsDamage, IsDamaged, IsSaid, IsServed}
+use Rattle.exchange_top.specs.Run.{Outside, Ran, Served, Says, IsDamage, IsDamaged, IsSaid, IsServed}
 use Rattle.exchange_top.specs.Talk.{IsTalk}
 use Rattle.exchange_top.specs.declared.ended.Ended.{Ended}
 use Rattle.exchange_top.specs.declared.recovery.OpenFault.{OpenFault}
@@ -109,14 +109,14 @@ run-since drive is_drive disk middle first history image stored front longer hol
 
 -- a run over an exchange that was recovered of a disk is a run over that disk
 pub ran-served : {D : Type 0} (drive : D → Drive) (is_drive : (d : D) → IsDrive (drive d)) (disk middle : D) (first : List Act) (ended : Ended D)
-    (left_before left_after held_before held_after : Option (List ℕ)) (told_before told_after : List ℕ → Type 0)
-    → Served drive middle first ended left_before left_after held_before held_after told_before told_after
+    (before after : Outside)
+    → Served drive middle first ended before after
     → GoesOn (drive disk) (drive middle)
     → Honestly (drive disk) (Holds (drive disk).bytes first)
     → Honestly (drive disk) (IsStored (drive disk) → (moment : ℕ) (image : List ℕ) → moment ≤ (drive disk).moment → (drive middle).image_since moment image
     → (drive disk).image_since moment image ⊎ StandsAs (drive disk).bytes image)
-    → Ran drive disk ended left_before left_after held_before held_after told_before told_after
-ran-served drive is_drive disk middle first ended left_before left_after held_before held_after told_before told_after s goes holds back = record {
+    → Ran drive disk ended before after
+ran-served drive is_drive disk middle first ended before after s goes holds back = record {
   first = first;
   turns = s.ran.turns;
   history = s.ran.history;

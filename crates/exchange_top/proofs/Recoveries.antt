@@ -3,18 +3,18 @@ use Rattle.std.proofs.Common.{◌≡◌, ℕ, ◌≤◌, List, [], ◌∷◌, �
 use Rattle.std.specs.Prelude.{◌≢◌, Result, Ok, Err, IfOk, IfErr, Some, slice_get}
 use Rattle.std.proofs.Math.Seq.{take-append_seam}
 use Rattle.act_bytes.specs.Spelling.{Spells}
-use Rattle.act_bytes.specs.Unique.{one-act}
+use Rattle.act_bytes.proofs.Unique.{one-act}
 use Rattle.command_words.specs.declared.act.Act.{Act}
 use Rattle.journal_disk.specs.Drive.{Drive}
 use Rattle.journal_disk.specs.Steps.{GoesOn, Leaves}
 use Rattle.journal_store.specs.Found.{Follows, Breaks, IsForeign}
-use Rattle.journal_store.specs.FoundLaws.{no-list, followed, whole-or-broken}
-use Rattle.journal_store.specs.Journal.{Kept}
-use Rattle.journal_store.specs.MakeLaws.{empty_bytes, length-empty}
+use Rattle.journal_store.proofs.FoundLaws.{empty-stands, no-list, followed, whole-or-broken}
+use Rattle.journal_store.specs.Journal.{JournalView}
+use Rattle.journal_store.specs.Format.{empty_bytes}
 use Rattle.journal_store.specs.Opening.{Opens}
-use Rattle.journal_store.specs.Reading.{Reading, HasTold, Tells}
+use Rattle.journal_store.specs.Reader.{ReaderView, HasTold, Tells}
 use Rattle.journal_store.specs.Stands.{Stands}
-use Rattle.journal_store.specs.Unique.{one-list}
+use Rattle.journal_store.proofs.Unique.{one-list}
 use Rattle.journal_store.specs.declared.outcome.BeginFault.{BeginFault}
 use Rattle.journal_store.specs.declared.outcome.BeginFault.TheVariants as begin
 use Rattle.journal_store.specs.declared.outcome.NextFault.{NextFault}
@@ -24,7 +24,7 @@ use Rattle.settle_core.specs.Legal.{IsAccepted, IsLegal}
 use Rattle.settle_core.specs.Replay.{IsRefused}
 use Rattle.exchange_top.specs.Damage.{IsCutAt, IsIllegalAt}
 use Rattle.exchange_top.specs.Holds.{SpellAll, Holds}
-use Rattle.exchange_top.specs.Recovery.{Recovers, Stops, StopsAt, IsRedone, IsExcused, Unchanged, disk_of, of_begin, of_next}
+use Rattle.exchange_top.specs.Recovery.{Recovers, Stops, StopsAt, IsRedone, IsExcused, of_begin, of_next}
 use Rattle.exchange_top.specs.declared.recovery.OpenFailed.{OpenFailed}
 use Rattle.exchange_top.specs.declared.recovery.OpenFault.{OpenFault}
 use Rattle.exchange_top.specs.declared.recovery.OpenFault.TheVariants.{Disk, NotJournal, Cut, NotAct, Illegal, Memory}
@@ -77,13 +77,13 @@ pub not-both : (limits : Bounds) (history : List Act) (act : Act) (code : ℕ) �
 not-both limits history act code accepted refused = let same = sym accepted.accepted ∙ refused.refused in cc
 
 -- A reader has told payloads that spell a history.
-pub record ToldActs {D : Type 0} (drive : D → Drive) (history : List Act) (reader : Reading D) : Type 0 where
+pub record ToldActs {D : Type 0} (drive : D → Drive) (history : List Act) (reader : ReaderView D) : Type 0 where
   pub list : List (List ℕ)
   pub told : HasTold drive list reader
   pub spelled : SpellAll list history
 
 -- one act more
-pub told-more : {D : Type 0} (drive : D → Drive) (list : List (List ℕ)) (history after : List Act) (payload : List ℕ) (reader : Reading D) → SpellAll list history → HasTold drive (list ++ payload ∷ []) reader → IsRedone history after payload → ToldActs drive after reader
+pub told-more : {D : Type 0} (drive : D → Drive) (list : List (List ℕ)) (history after : List Act) (payload : List ℕ) (reader : ReaderView D) → SpellAll list history → HasTold drive (list ++ payload ∷ []) reader → IsRedone history after payload → ToldActs drive after reader
 told-more drive list history after payload reader spelled told redone = record {
   list = list ++ payload ∷ [];
   told = told;
@@ -105,7 +105,7 @@ stops-cut limits bytes now list history place lsn same spelled legal counted bre
   counted = counted;
 }
 
-pub stops-next : {D : Type 0} (drive : D → Drive) (limits : Bounds) (bytes : List ℕ) (list : List (List ℕ)) (history : List Act) (reader : Reading D) (fault : NextFault) (lsn : ℕ) → (drive reader.disk).bytes ≡ bytes → SpellAll list history → IsLegal limits history → lsn ≡ length history → Tells drive list (Err fault) reader → Stops limits bytes (of_next fault lsn)
+pub stops-next : {D : Type 0} (drive : D → Drive) (limits : Bounds) (bytes : List ℕ) (list : List (List ℕ)) (history : List Act) (reader : ReaderView D) (fault : NextFault) (lsn : ℕ) → (drive reader.disk).bytes ≡ bytes → SpellAll list history → IsLegal limits history → lsn ≡ length history → Tells drive list (Err fault) reader → Stops limits bytes (of_next fault lsn)
 stops-next drive limits bytes list history reader next.Disk lsn same spelled legal counted tells = tt
 stops-next drive limits bytes list history reader (next.Cut place) lsn same spelled legal counted tells = stops-cut limits bytes (drive reader.disk).bytes list history place lsn same spelled legal counted tells
 
@@ -146,20 +146,11 @@ leaves-trans a b c goes first second = record {
 }
 
 -- what a journal stands for as it was opened
-stands-empty : Stands empty_bytes []
-stands-empty = inl (omega (arith, length-empty), refl)
-
 pub stands-before : (before now : List ℕ) (list : List (List ℕ)) → Opens before now → Stands now list → Stands before list
 stands-before before now list (inl had) stands = subst (λ (image : List ℕ). Stands image list) had.2 stands
-stands-before before now list (inr made) stands = inl (made.0, one-list empty_bytes list [] (subst (λ (image : List ℕ). Stands image list) made.1 stands) stands-empty)
+stands-before before now list (inr made) stands = inl (made.0, one-list empty_bytes list [] (subst (λ (image : List ℕ). Stands image list) made.1 stands) empty-stands)
 
-pub stands-now : (before now : List ℕ) (list : List (List ℕ)) → Opens before now → Stands before list → Stands now list
-stands-now before now list (inl had) stands = subst (λ (image : List ℕ). Stands image list) (sym had.2) stands
-stands-now before now list (inr made) stands =
-    let none : list ≡ [] = one-list before list [] stands (inl (made.0, refl)) in
-    subst (λ (image : List ℕ). Stands image list) (sym made.1) (subst (Stands empty_bytes) (sym none) stands-empty)
-
-pub recovers-before : {D : Type 0} (drive : D → Drive) (before now : List ℕ) (history : List Act) (journal : Kept D) → Opens before now → Recovers drive now history journal → Recovers drive before history journal
+pub recovers-before : {D : Type 0} (drive : D → Drive) (before now : List ℕ) (history : List Act) (journal : JournalView D) → Opens before now → Recovers drive now history journal → Recovers drive before history journal
 recovers-before drive before now history journal opens r = record {
   list = r.list;
   stands = stands-before before now r.list opens r.stands;
@@ -173,7 +164,7 @@ no-first list rest payload same = omega (arith, ap length same, length-append li
 
 no-payload : (now : List ℕ) (list : List (List ℕ)) (payload : List ℕ) (place : ℕ) → now ≡ empty_bytes → Follows list payload place now → ⊥
 no-payload now list payload place made follows =
-    let more = followed now [] list payload place (subst (λ (image : List ℕ). Stands image []) (sym made) stands-empty) follows in
+    let more = followed now [] list payload place (subst (λ (image : List ℕ). Stands image []) (sym made) empty-stands) follows in
     no-first list more.0 payload more.1
 
 -- a journal stops where the bytes were a journal's
@@ -181,7 +172,7 @@ stops-made : (limits : Bounds) (before now : List ℕ) (why : OpenFault) → len
 stops-made limits before now Disk short made header stops = tt
 stops-made limits before now NotJournal short made header stops = header refl
 stops-made limits before now (Cut place lsn) short made header stops =
-    whole-or-broken before now [] stops.list place (inr (short, made)) (subst (λ (image : List ℕ). Stands image []) (sym made) stands-empty) stops.breaks
+    whole-or-broken now [] stops.list place (subst (λ (image : List ℕ). Stands image []) (sym made) empty-stands) stops.breaks
 stops-made limits before now (NotAct place lsn) short made header stops = no-payload now stops.list stops.payload place made stops.follows
 stops-made limits before now (Illegal place lsn code) short made header stops = no-payload now stops.list stops.payload place made stops.follows
 stops-made limits before now Memory short made header stops = tt
@@ -194,29 +185,9 @@ excused-stops limits bytes (NotAct place lsn) excused = absurd excused
 excused-stops limits bytes (Illegal place lsn code) excused = absurd excused
 excused-stops limits bytes Memory excused = tt
 
-excused-unchanged : (before now : List ℕ) (why : OpenFault) → IsExcused why → Unchanged why before now
-excused-unchanged before now Disk excused = tt
-excused-unchanged before now NotJournal excused = absurd excused
-excused-unchanged before now (Cut place lsn) excused = absurd excused
-excused-unchanged before now (NotAct place lsn) excused = absurd excused
-excused-unchanged before now (Illegal place lsn code) excused = absurd excused
-excused-unchanged before now Memory excused = tt
-
-same-unchanged : (before now : List ℕ) (why : OpenFault) → now ≡ before → Unchanged why before now
-same-unchanged before now Disk same = tt
-same-unchanged before now NotJournal same = same
-same-unchanged before now (Cut place lsn) same = same
-same-unchanged before now (NotAct place lsn) same = same
-same-unchanged before now (Illegal place lsn code) same = same
-same-unchanged before now Memory same = tt
-
 pub stops-before : (limits : Bounds) (before now : List ℕ) (why : OpenFault) → Opens before now → why ≢ NotJournal → Stops limits now why → Stops limits before why
 stops-before limits before now why (inl had) header stops = subst (λ (bytes : List ℕ). Stops limits bytes why) had.2 stops
 stops-before limits before now why (inr made) header stops = excused-stops limits before why (stops-made limits before now why made.0 made.1 header stops)
-
-pub unchanged : (limits : Bounds) (before now after : List ℕ) (why : OpenFault) → Opens before now → why ≢ NotJournal → Stops limits now why → after ≡ now → Unchanged why before after
-unchanged limits before now after why (inl had) header stops same = same-unchanged before after why (same ∙ had.2)
-unchanged limits before now after why (inr made) header stops same = excused-unchanged before after why (stops-made limits before now why made.0 made.1 header stops)
 
 -- bytes that hold a legal history stop nowhere
 spelled-at : (now : List ℕ) (whole list : List (List ℕ)) (payload : List ℕ) (place : ℕ) (history : List Act) → Stands now whole → SpellAll whole history → Follows list payload place now → SpellsAt list payload history
@@ -231,17 +202,16 @@ illegal-passed limits now place lsn code stops history legal at =
     let act = one-act stops.payload at.act stops.act at.spells stops.spells in
     not-both limits stops.history stops.act code (subst (IsAccepted limits stops.history) act (subst (λ (acts : List Act). IsAccepted limits acts at.act) front accepted)) stops.refused
 
-pub excused : (limits : Bounds) (before now : List ℕ) (why : OpenFault) (history : List Act) → Opens before now → why ≢ NotJournal → Stops limits now why → Holds before history → IsLegal limits history → IsExcused why
-excused limits before now Disk history opens header stops holds legal = tt
-excused limits before now NotJournal history opens header stops holds legal = header refl
-excused limits before now (Cut place lsn) history opens header stops holds legal =
-    whole-or-broken before now holds.0 stops.list place opens (stands-now before now holds.0 opens holds.1) stops.breaks
-excused limits before now (NotAct place lsn) history opens header stops holds legal =
-    let at = spelled-at now holds.0 stops.list stops.payload place history (stands-now before now holds.0 opens holds.1) holds.2 stops.follows in
+pub no-damage : (limits : Bounds) (bytes : List ℕ) (why : OpenFault) (history : List Act) → Holds bytes history → IsLegal limits history → Stops limits bytes why → IsExcused why
+no-damage limits bytes Disk history holds legal stops = tt
+no-damage limits bytes NotJournal history holds legal stops = no-list bytes holds.0 stops holds.1
+no-damage limits bytes (Cut place lsn) history holds legal stops = whole-or-broken bytes holds.0 stops.list place holds.1 stops.breaks
+no-damage limits bytes (NotAct place lsn) history holds legal stops =
+    let at = spelled-at bytes holds.0 stops.list stops.payload place history holds.1 holds.2 stops.follows in
     stops.no_act at.act at.spells
-excused limits before now (Illegal place lsn code) history opens header stops holds legal =
-    illegal-passed limits now place lsn code stops history legal (spelled-at now holds.0 stops.list stops.payload place history (stands-now before now holds.0 opens holds.1) holds.2 stops.follows)
-excused limits before now Memory history opens header stops holds legal = tt
+no-damage limits bytes (Illegal place lsn code) history holds legal stops =
+    illegal-passed limits bytes place lsn code stops history legal (spelled-at bytes holds.0 stops.list stops.payload place history holds.1 holds.2 stops.follows)
+no-damage limits bytes Memory history holds legal stops = tt
 
 -- a disk that has a journal which holds a history is opened, where it is honest and memory is there
 pub begin-excused : (bytes : List ℕ) (why : BeginFault) (history : List Act) → (why ≡ begin.NotJournal → IsForeign bytes) → Holds bytes history → IsExcused (of_begin why)
@@ -262,13 +232,12 @@ pub err-onward : {A E : Type 0} (result : Result A E) (P Q : E → Type 0) → I
 err-onward (Ok x) P Q holds onward = tt
 err-onward (Err e) P Q holds onward = onward e holds
 
--- why a journal gave no exchange, which began with its header, and that its bytes are left
-pub record IsStopped {D : Type 0} (drive : D → Drive) (limits : Bounds) (now : List ℕ) (failed : OpenFailed D) : Type 0 where
+-- why a journal gave no exchange that was opened
+pub record StoppedBehind {D : Type 0} (limits : Bounds) (now : List ℕ) (failed : OpenFailed D) : Type 0 where
   pub header : failed.why ≢ NotJournal
   pub stops : Stops limits now failed.why
-  pub left : (drive failed.disk).bytes ≡ now
 
-pub is-stopped : {D : Type 0} (drive : D → Drive) (limits kept : Bounds) (now : List ℕ) (result : Result (Opened D) (OpenFailed D)) → kept ≡ limits
-    → IfErr result (λ failed. failed.why ≢ NotJournal) → IfErr result (λ failed. Stops kept now failed.why) → (drive (disk_of result)).bytes ≡ now → IfErr result (IsStopped drive limits now)
-is-stopped drive limits kept now (Ok opened) same header stops left = tt
-is-stopped drive limits kept now (Err failed) same header stops left = record { header = header; stops = subst (λ (b : Bounds). Stops b now failed.why) same stops; left = left }
+pub stopped-behind : {D : Type 0} (limits kept : Bounds) (now : List ℕ) (result : Result (Opened D) (OpenFailed D)) → kept ≡ limits
+    → IfErr result (λ failed. failed.why ≢ NotJournal) → IfErr result (λ failed. Stops kept now failed.why) → IfErr result (StoppedBehind limits now)
+stopped-behind limits kept now (Ok opened) same header stops = tt
+stopped-behind limits kept now (Err failed) same header stops = record { header = header; stops = subst (λ (b : Bounds). Stops b now failed.why) same stops }

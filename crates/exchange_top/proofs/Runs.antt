@@ -1,21 +1,23 @@
 -- A run so far, how it goes on by a line, and how it ends.
 use Rattle.std.proofs.Common.{◌≡◌, ℕ, ◌+◌, List, [], ◌∷◌, ◌++◌, length, take, drop, Option, Some, None, refl, sym, ◌∙◌, ap, subst, inl, inr, arith, append_assoc, length-append}
-use Rattle.std.specs.Prelude.{◌⊎◌, ◌≤◌, map, All}
+use Rattle.std.specs.Prelude.{◌⊎◌, ◌≤◌, All}
 use Rattle.std.specs.Io.KnownBytes.{Appends}
-use Rattle.std.proofs.lemmas.List.{append-nil, map-append}
+use Rattle.std.proofs.lemmas.List.{append-nil, map-append, length-map}
 use Rattle.std.proofs.lemmas.Grind.{flat_map-append}
 use Rattle.std.proofs.lemmas.List.Elements.{All-nil, All-push, All-take, All-weaker}
 use Rattle.std.proofs.Math.Seq.{take-append_seam, take-length, drop-append_seam}
-use Rattle.outside_faults.specs.Told.{IfTold, IfTold-trans, IfTold-weaker, IfTold-same}
-use Rattle.line_link.specs.Lines.{Heard, heard_lines, AppendsFront}
-use Rattle.line_link.specs.Reading.{Reading}
+use Rattle.outside_faults.proofs.Told.{IfTold-trans, IfTold-weaker, IfTold-same}
+use Rattle.outside_faults.specs.Told.{IfTold}
+use Rattle.line_link.specs.Lines.{Heard, heard_lines, newlines, AppendsFront, IsFirstLine}
+use Rattle.line_link.specs.LineReader.{LineReaderView, Takes, TakesNoLine}
 use Rattle.line_link.specs.declared.status.Status.{Status}
 use Rattle.line_link.specs.declared.status.Status.TheVariants.{Done, WriteFault, DiskFault}
+use Rattle.line_link.proofs.FirstLines.{first-heard, first-split, newlines-append}
 use Rattle.command_words.specs.Reply.{rests_of}
 use Rattle.command_words.specs.declared.act.Act.{Act}
 use Rattle.journal_disk.specs.Drive.{Drive, IsDrive, IsStored, Honestly}
 use Rattle.journal_disk.specs.Steps.{GoesOn}
-use Rattle.journal_store.specs.Journal.{Kept}
+use Rattle.journal_store.specs.Journal.{JournalView}
 use Rattle.settle_core.specs.Bounds.{Bounds, standard}
 use Rattle.settle_core.specs.Legal.{IsLegal}
 use Rattle.exchange_top.proofs.Turns.{IsSmallStep, line-step}
@@ -23,38 +25,45 @@ use Rattle.exchange_top.proofs.Stores.{Storing, goes_on-trans, stored-holds, who
 use Rattle.exchange_top.specs.declared.serving.TheConstants.{MAX_INPUT}
 use Rattle.exchange_top.specs.ReplyText.{text_of}
 use Rattle.exchange_top.specs.Holds.{Holds, HoldsFront, HasStored}
-use Rattle.exchange_top.specs.Run.{Served, IsRead, AreFirst, IsWritten, HoldsAnswered, written, texts}
+use Rattle.exchange_top.specs.Run.{Outside, Served, IsRead, AreFirst, AreWhole, IsWritten, HoldsAnswered, lines_of, moments_of, written, texts}
 use Rattle.exchange_top.specs.Talk.{Turn, IsTalk, AnsweredLine}
 
-abbrev heard_of_turns : List Turn → List Heard
-heard_of_turns turns = map (λ (turn : Turn). turn.line) turns
+-- The input is what was told as lines, then what is pending, and then the rest that the source has left. Each newline of
+-- what was told ended a line.
+pub record HasTaken (turns : List Turn) (reader : LineReaderView) (input rest : List ℕ) : Type 0 where
+  pub told : List ℕ
+  pub split : input ≡ told ++ (reader.pending ++ rest)
+  pub no_fewer : newlines told ≤ length turns
+  pub counted : length input ≡ reader.taken + length rest
 
-abbrev moments_of_turns : List Turn → List ℕ
-moments_of_turns turns = map (λ (turn : Turn). turn.moment) turns
-
--- so many lines were answered, this history is left, these bytes were taken and not told, and so many were taken
-pub record Serving (first : List Act) (lines : ℕ) (history : List Act) (pending : List ℕ) (count : ℕ) (left_before left_now held_before held_now : Option (List ℕ)) (told_before told_now : List ℕ → Type 0) : Type 0 where
+-- so many lines were answered, this history is left, and the reader and the outside are so
+pub record Serving (first : List Act) (lines : ℕ) (history : List Act) (reader : LineReaderView) (before now : Outside) : Type 0 where
   pub turns : List Turn
   pub counted : length turns ≡ lines
   pub talk : IsTalk standard first turns history
   pub rests : All (λ turn. rests_of turn.reply ≤ length history) turns
-  pub read : IfTold left_before left_now (λ input rest. heard_lines input ≡ heard_of_turns turns ++ heard_lines (pending ++ rest))
-  pub taken : IfTold left_before left_now (λ input rest. length input ≡ count + length rest)
-  pub moments : (before : List ℕ) → told_before before → told_now (before ++ moments_of_turns turns)
-  pub texts : IfTold held_before held_now (λ old new. new ≡ old ++ texts turns)
+  pub read : IfTold before.left now.left (λ input rest. heard_lines input ≡ lines_of turns ++ heard_lines (reader.pending ++ rest))
+  pub taken : IfTold before.left now.left (HasTaken turns reader)
+  pub moments : (earlier : List ℕ) → before.told earlier → now.told (earlier ++ moments_of turns)
+  pub texts : IfTold before.held now.held (λ old new. new ≡ old ++ texts turns)
 
 -- nothing is read yet
-pub serving-start : (first : List Act) (left held : Option (List ℕ)) (told : List ℕ → Type 0) → Serving first 0 first [] 0 left left held held told told
-serving-start first left held told = record {
+serving-start : (first : List Act) (limit : ℕ) (text : List ℕ) (before : Outside) → Serving first 0 first (record { pending = []; taken = 0; limit = limit; text = text }) before before
+serving-start first limit text before = record {
   turns = [];
   counted = refl;
   talk = refl;
   rests = All-nil _;
-  read = IfTold-same left _ (λ input. refl);
-  taken = IfTold-same left _ (λ input. omega arith);
-  moments = λ before was. subst told (sym (append-nil before)) was;
-  texts = IfTold-same held _ (λ old. sym (append-nil old));
+  read = IfTold-same before.left _ (λ input. refl);
+  taken = IfTold-same before.left _ (λ input. record { told = []; split = refl; no_fewer = omega arith; counted = omega arith });
+  moments = λ earlier was. subst before.told (sym (append-nil earlier)) was;
+  texts = IfTold-same before.held _ (λ old. sym (append-nil old));
 }
+
+-- the reader and the exchange as they are made
+pub serving-init : (first : List Act) (reader : LineReaderView) (before : Outside) → reader ≡ record { pending = []; taken = 0; limit = MAX_INPUT; text = [] } → Serving first 0 first reader before before
+serving-init first reader before fresh =
+    subst (λ (r : LineReaderView). Serving first 0 first r before before) (sym fresh) (serving-start first MAX_INPUT [] before)
 
 -- a talk goes on by one turn
 IsTalk-more : (limits : Bounds) (first mid last : List Act) (turns : List Turn) (turn : Turn) → IsTalk limits first turns mid → AnsweredLine limits mid turn.line turn.moment turn.reply last → IsTalk limits first (turns ++ turn ∷ []) last
@@ -76,23 +85,36 @@ texts-more turns turn =
     flat_map-append (λ (t : Turn). text_of t.reply) turns (turn ∷ []) ∙ ap (λ (bytes : List ℕ). texts turns ++ bytes) (append-nil (text_of turn.reply))
 
 heard_more : (input pending rest pending' rest' : List ℕ) (turns : List Turn) (turn : Turn)
-    → heard_lines input ≡ heard_of_turns turns ++ heard_lines (pending ++ rest)
-    → heard_lines (pending ++ rest) ≡ turn.line ∷ heard_lines (pending' ++ rest')
-    → heard_lines input ≡ heard_of_turns (turns ++ turn ∷ []) ++ heard_lines (pending' ++ rest')
+    → heard_lines input ≡ lines_of turns ++ heard_lines (pending ++ rest)
+    → IsFirstLine turn.line (pending ++ rest) (pending' ++ rest')
+    → heard_lines input ≡ lines_of (turns ++ turn ∷ []) ++ heard_lines (pending' ++ rest')
 heard_more input pending rest pending' rest' turns turn so_far next =
-    so_far ∙ (ap (λ (heard : List Heard). heard_of_turns turns ++ heard) next
-    ∙ (sym (append_assoc (heard_of_turns turns) (turn.line ∷ []) (heard_lines (pending' ++ rest')))
+    so_far ∙ (ap (λ (heard : List Heard). lines_of turns ++ heard) (first-heard turn.line (pending ++ rest) (pending' ++ rest') next)
+    ∙ (sym (append_assoc (lines_of turns) (turn.line ∷ []) (heard_lines (pending' ++ rest')))
     ∙ ap (λ (heard : List Heard). heard ++ heard_lines (pending' ++ rest')) (sym (map-append (λ (t : Turn). t.line) turns (turn ∷ [])))))
+
+-- one line more was told
+taken_more : (turns : List Turn) (turn : Turn) (reader reader' : LineReaderView) (input rest rest' : List ℕ) → HasTaken turns reader input rest
+    → IsFirstLine turn.line (reader.pending ++ rest) (reader'.pending ++ rest') → Takes reader.taken reader'.taken rest rest'
+    → HasTaken (turns ++ turn ∷ []) reader' input rest'
+taken_more turns turn reader reader' input rest rest' has line took =
+    let front = first-split turn.line (reader.pending ++ rest) (reader'.pending ++ rest') line in
+    record {
+      told = has.told ++ front.0;
+      split = has.split ∙ ap (λ (bytes : List ℕ). has.told ++ bytes) front.1 ∙ sym (append_assoc has.told front.0 (reader'.pending ++ rest'));
+      no_fewer = omega (arith, newlines-append has.told front.0, has.no_fewer, front.2, length-append turns (turn ∷ []));
+      counted = omega (arith, has.counted, took.counted, ap length took.bytes, length-append took.since rest');
+    }
 
 -- what was told before and after, with one more
 told_more : (told_before told_now told_next : List ℕ → Type 0) (turns : List Turn) (turn : Turn)
-    → ((before : List ℕ) → told_before before → told_now (before ++ moments_of_turns turns))
+    → ((earlier : List ℕ) → told_before earlier → told_now (earlier ++ moments_of turns))
     → ((moments : List ℕ) → told_now moments → told_next (moments ++ turn.moment ∷ []))
-    → (before : List ℕ) → told_before before → told_next (before ++ moments_of_turns (turns ++ turn ∷ []))
-told_more told_before told_now told_next turns turn so_far tick before was =
-    let again : before ++ moments_of_turns (turns ++ turn ∷ []) ≡ (before ++ moments_of_turns turns) ++ turn.moment ∷ [] =
-    ap (λ (ms : List ℕ). before ++ ms) (map-append (λ (t : Turn). t.moment) turns (turn ∷ [])) ∙ sym (append_assoc before (moments_of_turns turns) (turn.moment ∷ [])) in
-    subst told_next (sym again) (tick (before ++ moments_of_turns turns) (so_far before was))
+    → (earlier : List ℕ) → told_before earlier → told_next (earlier ++ moments_of (turns ++ turn ∷ []))
+told_more told_before told_now told_next turns turn so_far tick earlier was =
+    let again : earlier ++ moments_of (turns ++ turn ∷ []) ≡ (earlier ++ moments_of turns) ++ turn.moment ∷ [] =
+    ap (λ (ms : List ℕ). earlier ++ ms) (map-append (λ (t : Turn). t.moment) turns (turn ∷ [])) ∙ sym (append_assoc earlier (moments_of turns) (turn.moment ∷ [])) in
+    subst told_next (sym again) (tick (earlier ++ moments_of turns) (so_far earlier was))
 
 pub Appends-told : (old new : Option (List ℕ)) (bytes : List ℕ) → Appends old new bytes → IfTold old new (λ a b. b ≡ a ++ bytes)
 Appends-told None new bytes appends = tt
@@ -110,25 +132,32 @@ texts_then : (held_before held_now held_next : Option (List ℕ)) (turns : List 
 texts_then held_before held_now held_next turns bytes so_far appends =
     IfTold-trans held_before held_now held_next _ _ _ (λ a b c first second. joined a b c (texts turns) bytes first second) so_far (Appends-told held_now held_next bytes appends)
 
+-- A line was told at a moment, by a reader over an outside, and answered over a history.
+pub record IsTurn (history after : List Act) (turn : Turn) (reader reader' : LineReaderView) (now next : Outside) : Type 0 where
+  pub line : IfTold now.left next.left (λ rest rest'. IsFirstLine turn.line (reader.pending ++ rest) (reader'.pending ++ rest'))
+  pub took : IfTold now.left next.left (Takes reader.taken reader'.taken)
+  pub tick : (moments : List ℕ) → now.told moments → next.told (moments ++ turn.moment ∷ [])
+  pub answered : AnsweredLine standard history turn.line turn.moment turn.reply after
+
+-- both hold where anything is told
+both-told : (a b : Option (List ℕ)) (P Q : List ℕ → List ℕ → Type 0) → IfTold a b P → IfTold a b Q → IfTold a b (λ x y. P x y × Q x y)
+both-told None b P Q one two = tt
+both-told (Some x) None P Q one two = absurd one
+both-told (Some x) (Some y) P Q one two = (one, two)
+
 -- one line more is read, answered and written
-pub serving-step : (first : List Act) (lines count count' : ℕ) (history after : List Act) (pending pending' : List ℕ) (turn : Turn)
-    (left_before left_now left_next held_before held_now held_next : Option (List ℕ)) (told_before told_now told_next : List ℕ → Type 0)
-    → Serving first lines history pending count left_before left_now held_before held_now told_before told_now
-    → IfTold left_now left_next (λ before rest. heard_lines (pending ++ before) ≡ turn.line ∷ heard_lines (pending' ++ rest))
-    → IfTold left_now left_next (λ before rest. count' + length rest ≡ count + length before)
-    → ((moments : List ℕ) → told_now moments → told_next (moments ++ turn.moment ∷ []))
-    → AnsweredLine standard history turn.line turn.moment turn.reply after
-    → Appends held_now held_next (text_of turn.reply)
-    → Serving first (lines + 1) after pending' count' left_before left_next held_before held_next told_before told_next
-serving-step first lines count count' history after pending pending' turn left_before left_now left_next held_before held_now held_next told_before told_now told_next s line took tick answered appends = record {
+pub serving-step : (first : List Act) (lines : ℕ) (history after : List Act) (turn : Turn) (reader reader' : LineReaderView) (before now next : Outside)
+    → Serving first lines history reader before now → IsTurn history after turn reader reader' now next → Appends now.held next.held (text_of turn.reply)
+    → Serving first (lines + 1) after reader' before next
+serving-step first lines history after turn reader reader' before now next s is appends = record {
   turns = s.turns ++ turn ∷ [];
   counted = omega (arith, s.counted, length-append s.turns (turn ∷ []));
-  talk = IsTalk-more standard first history after s.turns turn s.talk answered;
-  rests = rests-more history after s.turns turn s.rests (line-step standard history after turn.line turn.moment turn.reply answered);
-  read = IfTold-trans left_before left_now left_next _ _ _ (λ input rest rest' so_far next. heard_more input pending rest pending' rest' s.turns turn so_far next) s.read line;
-  taken = IfTold-trans left_before left_now left_next _ _ _ (λ input rest rest' so_far next. omega arith) s.taken took;
-  moments = told_more told_before told_now told_next s.turns turn s.moments tick;
-  texts = IfTold-weaker held_before held_next _ _ (λ a b h. h ∙ ap (λ (bytes : List ℕ). a ++ bytes) (sym (texts-more s.turns turn))) (texts_then held_before held_now held_next s.turns (text_of turn.reply) s.texts appends);
+  talk = IsTalk-more standard first history after s.turns turn s.talk is.answered;
+  rests = rests-more history after s.turns turn s.rests (line-step standard history after turn.line turn.moment turn.reply is.answered);
+  read = IfTold-trans before.left now.left next.left _ _ _ (λ input rest rest' so_far line. heard_more input reader.pending rest reader'.pending rest' s.turns turn so_far line) s.read is.line;
+  taken = IfTold-trans before.left now.left next.left _ _ _ (λ input rest rest' so_far more. taken_more s.turns turn reader reader' input rest rest' so_far more.0 more.1) s.taken (both-told now.left next.left _ _ is.line is.took);
+  moments = told_more before.told now.told next.told s.turns turn s.moments is.tick;
+  texts = IfTold-weaker before.held next.held _ _ (λ a b h. h ∙ ap (λ (bytes : List ℕ). a ++ bytes) (sym (texts-more s.turns turn))) (texts_then before.held now.held next.held s.turns (text_of turn.reply) s.texts appends);
 }
 
 -- all texts were written whole
@@ -141,32 +170,41 @@ AreFirst-front : (input : List ℕ) (heard rest : List Heard) → heard_lines in
 AreFirst-front input heard rest all = ap (take (length heard)) all ∙ take-append_seam heard rest
 
 -- the source ended: every line was heard
-pub serving-all : (first : List Act) (lines count : ℕ) (history : List Act) (pending : List ℕ)
-    (left_before left_now left_next held_before held_now : Option (List ℕ)) (told_before told_now : List ℕ → Type 0)
-    → (s : Serving first lines history pending count left_before left_now held_before held_now told_before told_now)
-    → IfTold left_now left_next (λ before rest. (pending ++ before ≡ []) × (rest ≡ []))
-    → IfTold left_before left_next (IsRead Done (heard_of_turns s.turns))
-serving-all first lines count history pending left_before left_now left_next held_before held_now told_before told_now s end =
-    IfTold-trans left_before left_now left_next _ _ _ (λ input rest rest' so_far ends.
-    (sym (so_far ∙ (ap (λ (bytes : List ℕ). heard_of_turns s.turns ++ heard_lines bytes) ends.0 ∙ append-nil (heard_of_turns s.turns))), ends.1)) s.read end
+pub serving-all : (first : List Act) (lines : ℕ) (history : List Act) (reader : LineReaderView) (before now : Outside) (left_next : Option (List ℕ))
+    → (s : Serving first lines history reader before now)
+    → IfTold now.left left_next (λ rest rest'. (reader.pending ++ rest ≡ []) × (rest' ≡ []))
+    → IfTold before.left left_next (IsRead Done (lines_of s.turns))
+serving-all first lines history reader before now left_next s end =
+    IfTold-trans before.left now.left left_next _ _ _ (λ input rest rest' so_far ends.
+    (sym (so_far ∙ (ap (λ (bytes : List ℕ). lines_of s.turns ++ heard_lines bytes) ends.0 ∙ append-nil (lines_of s.turns))), ends.1)) s.read end
 
--- the source failed or the limit came: the lines heard are the first
-pub serving-first : (first : List Act) (lines count count' : ℕ) (history : List Act) (pending : List ℕ)
-    (left_before left_now left_next held_before held_now : Option (List ℕ)) (told_before told_now : List ℕ → Type 0)
-    → (s : Serving first lines history pending count left_before left_now held_before held_now told_before told_now)
-    → IfTold left_now left_next (λ before rest. count' + length rest ≡ count + length before)
-    → IfTold left_before left_next (λ input rest. AreFirst (heard_of_turns s.turns) input)
-serving-first first lines count count' history pending left_before left_now left_next held_before held_now told_before told_now s took =
-    IfTold-trans left_before left_now left_next _ _ _ (λ input rest rest' so_far next. AreFirst-front input (heard_of_turns s.turns) (heard_lines (pending ++ rest)) so_far) s.read took
+-- the source failed or the limit came: every line that ends in what was taken was heard
+whole-lines : (turns : List Turn) (reader : LineReaderView) (count : ℕ) (input rest rest' : List ℕ) → heard_lines input ≡ lines_of turns ++ heard_lines (reader.pending ++ rest)
+    → HasTaken turns reader input rest → Takes reader.taken count rest rest' → TakesNoLine reader.pending rest rest' → AreWhole (lines_of turns) input rest'
+whole-lines turns reader count input rest rest' so_far has took none =
+    let more = reader.pending ++ took.since in
+    record {
+      first = AreFirst-front input (lines_of turns) (heard_lines (reader.pending ++ rest)) so_far;
+      taken = has.told ++ more;
+      split = has.split ∙ ap (λ (bytes : List ℕ). has.told ++ (reader.pending ++ bytes)) took.bytes
+          ∙ ap (λ (bytes : List ℕ). has.told ++ bytes) (sym (append_assoc reader.pending took.since rest'))
+          ∙ sym (append_assoc has.told more rest');
+      no_fewer = omega (arith, newlines-append has.told more, none took.since took.bytes, has.no_fewer, length-map turns (λ (t : Turn). t.line));
+    }
+
+pub serving-whole : (first : List Act) (lines count : ℕ) (history : List Act) (reader : LineReaderView) (before now : Outside) (left_next : Option (List ℕ))
+    → (s : Serving first lines history reader before now) → IfTold now.left left_next (Takes reader.taken count) → IfTold now.left left_next (TakesNoLine reader.pending)
+    → IfTold before.left left_next (AreWhole (lines_of s.turns))
+serving-whole first lines count history reader before now left_next s took none =
+    IfTold-trans before.left now.left left_next _ _ _ (λ input rest rest' so_far more. whole-lines s.turns reader count input rest rest' so_far.0 so_far.1 more.0 more.1)
+    (both-told before.left now.left _ _ s.read s.taken) (both-told now.left left_next _ _ took none)
 
 -- how many bytes were taken in all
-pub serving-taken : (first : List Act) (lines count count' : ℕ) (history : List Act) (pending : List ℕ)
-    (left_before left_now left_next held_before held_now : Option (List ℕ)) (told_before told_now : List ℕ → Type 0)
-    → (s : Serving first lines history pending count left_before left_now held_before held_now told_before told_now)
-    → IfTold left_now left_next (λ before rest. count' + length rest ≡ count + length before)
-    → IfTold left_before left_next (λ input rest. length input ≡ count' + length rest)
-serving-taken first lines count count' history pending left_before left_now left_next held_before held_now told_before told_now s took =
-    IfTold-trans left_before left_now left_next _ _ _ (λ input rest rest' so_far next. omega arith) s.taken took
+pub serving-taken : (first : List Act) (lines count : ℕ) (history : List Act) (reader : LineReaderView) (before now : Outside) (left_next : Option (List ℕ))
+    → (s : Serving first lines history reader before now) → IfTold now.left left_next (Takes reader.taken count)
+    → IfTold before.left left_next (λ input rest. length input ≡ count + length rest)
+serving-taken first lines count history reader before now left_next s took =
+    IfTold-trans before.left now.left left_next _ _ _ (λ input rest rest' so_far more. omega (arith, so_far.counted, more.counted, ap length more.bytes, length-append more.since rest')) s.taken took
 
 -- the texts of all turns but the last, and some bytes of the last
 written-cut : (lines more : ℕ) (turns : List Turn) (turn : Turn) → length turns ≡ lines → written lines more (turns ++ turn ∷ []) ≡ texts turns ++ take more (text_of turn.reply)
@@ -209,16 +247,15 @@ since-began drive is_drive disk first status turns lines history last over hones
     ]
 
 -- the run, put together
-pub served : {D : Type 0} (drive : D → Drive) (is_drive : (d : D) → IsDrive (drive d)) (disk : D) (first : List Act) (status : Status) (turns : List Turn) (lines more : ℕ) (history : List Act) (last : D)
-    (left_before left_next held_before held_next : Option (List ℕ)) (told_before told_next : List ℕ → Type 0)
+served : {D : Type 0} (drive : D → Drive) (is_drive : (d : D) → IsDrive (drive d)) (disk : D) (first : List Act) (status : Status) (turns : List Turn) (lines more : ℕ) (history : List Act) (last : D) (before next : Outside)
     → Over drive disk first status turns lines history last
     → IsTalk standard first turns history → IsLegal standard history
-    → IfTold left_before left_next (IsRead status (heard_of_turns turns))
-    → ((before : List ℕ) → told_before before → told_next (before ++ moments_of_turns turns))
-    → IfTold held_before held_next (λ old new. new ≡ old ++ written lines more turns)
+    → IfTold before.left next.left (IsRead status (lines_of turns))
+    → ((earlier : List ℕ) → before.told earlier → next.told (earlier ++ moments_of turns))
+    → IfTold before.held next.held (λ old new. new ≡ old ++ written lines more turns)
     → IsWritten status lines more turns
-    → Served drive disk first (record { status = status; lines = lines; acts = length history; disk = last }) left_before left_next held_before held_next told_before told_next
-served drive is_drive disk first status turns lines more history last left_before left_next held_before held_next told_before told_next over talk legal read moments texts counted = record {
+    → Served drive disk first (record { status = status; lines = lines; acts = length history; disk = last }) before next
+served drive is_drive disk first status turns lines more history last before next over talk legal read moments texts counted = record {
   ran = record {
     first = first;
     turns = turns;
@@ -244,7 +281,7 @@ served drive is_drive disk first status turns lines more history last left_befor
 }
 
 -- the journal has all stored, and every text was written
-pub over-whole : {D : Type 0} (drive : D → Drive) (disk : D) (first history : List Act) (status : Status) (turns : List Turn) (lines : ℕ) (journal : Kept D)
+over-whole : {D : Type 0} (drive : D → Drive) (disk : D) (first history : List Act) (status : Status) (turns : List Turn) (lines : ℕ) (journal : JournalView D)
     → Storing drive disk first history journal → Honestly (drive disk) (Holds (drive disk).bytes first)
     → All (λ turn. rests_of turn.reply ≤ length history) turns → Over drive disk first status turns lines history journal.disk
 over-whole drive disk first history status turns lines journal s recovered rests = record {
@@ -258,82 +295,72 @@ over-whole drive disk first history status turns lines journal s recovered rests
 }
 
 -- no line was told, and the run ends so
-pub serving-end : {D : Type 0} (drive : D → Drive) (is_drive : (d : D) → IsDrive (drive d)) (disk : D) (first : List Act) (status : Status) (lines count : ℕ) (history : List Act) (pending : List ℕ) (journal : Kept D)
-    (left_before left_now left_next held_before held_now : Option (List ℕ)) (told_before told_now : List ℕ → Type 0)
-    → (s : Serving first lines history pending count left_before left_now held_before held_now told_before told_now)
+pub serving-end : {D : Type 0} (drive : D → Drive) (is_drive : (d : D) → IsDrive (drive d)) (disk : D) (first : List Act) (status : Status) (lines : ℕ) (history : List Act) (reader : LineReaderView) (journal : JournalView D)
+    (before now : Outside) (left_next : Option (List ℕ))
+    → (s : Serving first lines history reader before now)
     → Storing drive disk first history journal → Honestly (drive disk) (Holds (drive disk).bytes first) → IsLegal standard history
-    → IfTold left_before left_next (IsRead status (heard_of_turns s.turns))
+    → IfTold before.left left_next (IsRead status (lines_of s.turns))
     → (length s.turns ≡ lines → IsWritten status lines 0 s.turns)
-    → Served drive disk first (record { status = status; lines = lines; acts = length history; disk = journal.disk }) left_before left_next held_before held_now told_before told_now
-serving-end drive is_drive disk first status lines count history pending journal left_before left_now left_next held_before held_now told_before told_now s storing recovered legal read whole =
-    served drive is_drive disk first status s.turns lines 0 history journal.disk left_before left_next held_before held_now told_before told_now
+    → Served drive disk first (record { status = status; lines = lines; acts = length history; disk = journal.disk }) before (record now { left = left_next })
+serving-end drive is_drive disk first status lines history reader journal before now left_next s storing recovered legal read whole =
+    served drive is_drive disk first status s.turns lines 0 history journal.disk before (record now { left = left_next })
     (over-whole drive disk first history status s.turns lines journal storing recovered s.rests) s.talk legal read s.moments
-    (IfTold-weaker held_before held_now _ _ (λ a b h. h ∙ ap (λ (bytes : List ℕ). a ++ bytes) (sym (written-whole lines s.turns s.counted))) s.texts)
+    (IfTold-weaker before.held now.held _ _ (λ a b h. h ∙ ap (λ (bytes : List ℕ). a ++ bytes) (sym (written-whole lines s.turns s.counted))) s.texts)
     (whole s.counted)
 
 -- what is read of a line that was told last
-read-last : (first : List Act) (lines count : ℕ) (history : List Act) (pending pending' : List ℕ) (turn : Turn)
-    (left_before left_now left_next held_before held_now : Option (List ℕ)) (told_before told_now : List ℕ → Type 0)
-    → (s : Serving first lines history pending count left_before left_now held_before held_now told_before told_now)
-    → IfTold left_now left_next (λ before rest. heard_lines (pending ++ before) ≡ turn.line ∷ heard_lines (pending' ++ rest))
-    → IfTold left_before left_next (λ input rest. AreFirst (heard_of_turns (s.turns ++ turn ∷ [])) input)
-read-last first lines count history pending pending' turn left_before left_now left_next held_before held_now told_before told_now s line =
-    IfTold-trans left_before left_now left_next _ _ _ (λ input rest rest' so_far next.
-    AreFirst-front input (heard_of_turns (s.turns ++ turn ∷ [])) (heard_lines (pending' ++ rest')) (heard_more input pending rest pending' rest' s.turns turn so_far next)) s.read line
+read-last : (first : List Act) (lines : ℕ) (history after : List Act) (turn : Turn) (reader reader' : LineReaderView) (before now next : Outside)
+    → (s : Serving first lines history reader before now) → IsTurn history after turn reader reader' now next
+    → IfTold before.left next.left (λ input rest. AreFirst (lines_of (s.turns ++ turn ∷ [])) input)
+read-last first lines history after turn reader reader' before now next s is =
+    IfTold-trans before.left now.left next.left _ _ _ (λ input rest rest' so_far line.
+    AreFirst-front input (lines_of (s.turns ++ turn ∷ [])) (heard_lines (reader'.pending ++ rest')) (heard_more input reader.pending rest reader'.pending rest' s.turns turn so_far line)) s.read is.line
 
 -- the line was answered and stored, and the sink failed before its text was written whole
-pub serving-cut : {D : Type 0} (drive : D → Drive) (is_drive : (d : D) → IsDrive (drive d)) (disk : D) (first : List Act) (lines count : ℕ) (history after : List Act) (pending pending' : List ℕ) (turn : Turn) (next : Kept D)
-    (left_before left_now left_next held_before held_now held_next : Option (List ℕ)) (told_before told_now told_next : List ℕ → Type 0)
-    → (s : Serving first lines history pending count left_before left_now held_before held_now told_before told_now)
-    → Storing drive disk first after next → Honestly (drive disk) (Holds (drive disk).bytes first) → IsLegal standard after
-    → IfTold left_now left_next (λ before rest. heard_lines (pending ++ before) ≡ turn.line ∷ heard_lines (pending' ++ rest))
-    → ((moments : List ℕ) → told_now moments → told_next (moments ++ turn.moment ∷ []))
-    → AnsweredLine standard history turn.line turn.moment turn.reply after
-    → AppendsFront held_now held_next (text_of turn.reply)
-    → Served drive disk first (record { status = WriteFault; lines = lines; acts = length after; disk = next.disk }) left_before left_next held_before held_next told_before told_next
-serving-cut drive is_drive disk first lines count history after pending pending' turn next left_before left_now left_next held_before held_now held_next told_before told_now told_next s storing recovered legal line tick answered front =
-    served drive is_drive disk first WriteFault (s.turns ++ turn ∷ []) lines front.0 after next.disk left_before left_next held_before held_next told_before told_next
-    (over-whole drive disk first after WriteFault (s.turns ++ turn ∷ []) lines next storing recovered (rests-more history after s.turns turn s.rests (line-step standard history after turn.line turn.moment turn.reply answered)))
-    (IsTalk-more standard first history after s.turns turn s.talk answered) legal
-    (read-last first lines count history pending pending' turn left_before left_now left_next held_before held_now told_before told_now s line)
-    (told_more told_before told_now told_next s.turns turn s.moments tick)
-    (IfTold-weaker held_before held_next _ _ (λ a b h. h ∙ ap (λ (bytes : List ℕ). a ++ bytes) (sym (written-cut lines front.0 s.turns turn s.counted)))
-    (texts_then held_before held_now held_next s.turns (take front.0 (text_of turn.reply)) s.texts front.2))
+pub serving-cut : {D : Type 0} (drive : D → Drive) (is_drive : (d : D) → IsDrive (drive d)) (disk : D) (first : List Act) (lines : ℕ) (history after : List Act) (turn : Turn) (reader reader' : LineReaderView) (journal : JournalView D)
+    (before now next : Outside)
+    → Serving first lines history reader before now
+    → Storing drive disk first after journal → Honestly (drive disk) (Holds (drive disk).bytes first) → IsLegal standard after
+    → IsTurn history after turn reader reader' now next
+    → AppendsFront now.held next.held (text_of turn.reply)
+    → Served drive disk first (record { status = WriteFault; lines = lines; acts = length after; disk = journal.disk }) before next
+serving-cut drive is_drive disk first lines history after turn reader reader' journal before now next s storing recovered legal is front =
+    served drive is_drive disk first WriteFault (s.turns ++ turn ∷ []) lines front.0 after journal.disk before next
+    (over-whole drive disk first after WriteFault (s.turns ++ turn ∷ []) lines journal storing recovered (rests-more history after s.turns turn s.rests (line-step standard history after turn.line turn.moment turn.reply is.answered)))
+    (IsTalk-more standard first history after s.turns turn s.talk is.answered) legal
+    (read-last first lines history after turn reader reader' before now next s is)
+    (told_more before.told now.told next.told s.turns turn s.moments is.tick)
+    (IfTold-weaker before.held next.held _ _ (λ a b h. h ∙ ap (λ (bytes : List ℕ). a ++ bytes) (sym (written-cut lines front.0 s.turns turn s.counted)))
+    (texts_then before.held now.held next.held s.turns (take front.0 (text_of turn.reply)) s.texts front.2))
     (omega (arith, s.counted, length-append s.turns (turn ∷ [])), rw (length-cut lines s.turns turn s.counted) front.1)
 
 -- the line was answered, and the disk failed as it was stored: nothing of its text was written
-pub serving-lost : {D : Type 0} (drive : D → Drive) (is_drive : (d : D) → IsDrive (drive d)) (disk : D) (first : List Act) (lines count : ℕ) (history after : List Act) (pending pending' : List ℕ) (turn : Turn) (journal next : Kept D)
-    (left_before left_now left_next held_before held_now : Option (List ℕ)) (told_before told_now told_next : List ℕ → Type 0)
-    → (s : Serving first lines history pending count left_before left_now held_before held_now told_before told_now)
+pub serving-lost : {D : Type 0} (drive : D → Drive) (is_drive : (d : D) → IsDrive (drive d)) (disk : D) (first : List Act) (lines : ℕ) (history after : List Act) (turn : Turn) (reader reader' : LineReaderView) (journal later : JournalView D)
+    (before now next : Outside)
+    → Serving first lines history reader before now
     → Storing drive disk first history journal → Honestly (drive disk) (Holds (drive disk).bytes first) → IsLegal standard after
-    → IfTold left_now left_next (λ before rest. heard_lines (pending ++ before) ≡ turn.line ∷ heard_lines (pending' ++ rest))
-    → ((moments : List ℕ) → told_now moments → told_next (moments ++ turn.moment ∷ []))
-    → AnsweredLine standard history turn.line turn.moment turn.reply after
-    → (HasStored drive history journal → (image : List ℕ) → (drive next.disk).image image → Holds image history ⊎ Holds image after)
-    → (HasStored drive history journal → (moment : ℕ) (image : List ℕ) → moment ≤ (drive journal.disk).moment → (drive next.disk).image_since moment image
+    → IsTurn history after turn reader reader' now next → next.held ≡ now.held
+    → (HasStored drive history journal → (image : List ℕ) → (drive later.disk).image image → Holds image history ⊎ Holds image after)
+    → (HasStored drive history journal → (moment : ℕ) (image : List ℕ) → moment ≤ (drive journal.disk).moment → (drive later.disk).image_since moment image
     → (drive journal.disk).image_since moment image ⊎ (Holds image history ⊎ Holds image after))
-    → GoesOn (drive journal.disk) (drive next.disk)
-    → Served drive disk first (record { status = DiskFault; lines = lines; acts = length after; disk = next.disk }) left_before left_next held_before held_now told_before told_next
-serving-lost drive is_drive disk first lines count history after pending pending' turn journal next left_before left_now left_next held_before held_now told_before told_now told_next s storing recovered legal line tick answered image since goes =
-    let small = line-step standard history after turn.line turn.moment turn.reply answered in
+    → GoesOn (drive journal.disk) (drive later.disk)
+    → Served drive disk first (record { status = DiskFault; lines = lines; acts = length after; disk = later.disk }) before next
+serving-lost drive is_drive disk first lines history after turn reader reader' journal later before now next s storing recovered legal is same image since goes =
+    let small = line-step standard history after turn.line turn.moment turn.reply is.answered in
     let few : take lines (s.turns ++ turn ∷ []) ≡ s.turns = ap (λ (n : ℕ). take n (s.turns ++ turn ∷ [])) (sym s.counted) ∙ take-append_seam s.turns (turn ∷ []) in
-    served drive is_drive disk first DiskFault (s.turns ++ turn ∷ []) lines 0 after next.disk left_before left_next held_before held_now told_before told_next
+    served drive is_drive disk first DiskFault (s.turns ++ turn ∷ []) lines 0 after later.disk before next
     (record {
       recovered = recovered;
-      kept = λ honest bytes now. subst (λ (ts : List Turn). HoldsAnswered ts after bytes) (sym few) (lost-answered s.turns history after bytes small.step s.rests (image (storing.stored honest) bytes now));
+      kept = λ honest bytes there. subst (λ (ts : List Turn). HoldsAnswered ts after bytes) (sym few) (lost-answered s.turns history after bytes small.step s.rests (image (storing.stored honest) bytes there));
       whole = λ honest fine. absurd (fine refl);
-      since = storing-since drive disk first history after journal next storing small.step since;
+      since = storing-since drive disk first history after journal later storing small.step since;
       front = step-take (length first) history after small.step storing.longer ∙ storing.front;
       longer = omega (arith, storing.longer, step-longer history after small.step);
-      goes_on = goes_on-trans (drive disk) (drive journal.disk) (drive next.disk) storing.goes_on goes;
+      goes_on = goes_on-trans (drive disk) (drive journal.disk) (drive later.disk) storing.goes_on goes;
     })
-    (IsTalk-more standard first history after s.turns turn s.talk answered) legal
-    (read-last first lines count history pending pending' turn left_before left_now left_next held_before held_now told_before told_now s line)
-    (told_more told_before told_now told_next s.turns turn s.moments tick)
-    (IfTold-weaker held_before held_now _ _ (λ a b h. h ∙ ap (λ (bytes : List ℕ). a ++ bytes) (sym (written-cut lines 0 s.turns turn s.counted ∙ append-nil (texts s.turns)))) s.texts)
+    (IsTalk-more standard first history after s.turns turn s.talk is.answered) legal
+    (read-last first lines history after turn reader reader' before now next s is)
+    (told_more before.told now.told next.told s.turns turn s.moments is.tick)
+    (subst (λ (held : Option (List ℕ)). IfTold before.held held (λ old new. new ≡ old ++ written lines 0 (s.turns ++ turn ∷ []))) (sym same)
+    (IfTold-weaker before.held now.held _ _ (λ a b h. h ∙ ap (λ (bytes : List ℕ). a ++ bytes) (sym (written-cut lines 0 s.turns turn s.counted ∙ append-nil (texts s.turns)))) s.texts))
     (omega (arith, s.counted, length-append s.turns (turn ∷ [])), refl)
-
--- the reader and the exchange as they are made
-pub serving-init : (first : List Act) (reading : Reading) (left held : Option (List ℕ)) (told : List ℕ → Type 0) → reading ≡ record { pending = []; taken = 0; limit = MAX_INPUT; text = [] } → Serving first 0 first reading.pending reading.taken left left held held told told
-serving-init first reading left held told fresh =
-    subst (λ (r : Reading). Serving first 0 first r.pending r.taken left left held held told told) (sym fresh) (serving-start first left held told)

@@ -9,7 +9,7 @@ use Rattle.command_words.specs.Reply.{rests_of}
 use Rattle.command_words.specs.declared.act.Act.{Act}
 use Rattle.journal_disk.specs.Drive.{Drive, Honestly}
 use Rattle.journal_disk.specs.Steps.{GoesOn}
-use Rattle.journal_store.specs.Journal.{Kept, IsOf}
+use Rattle.journal_store.specs.Journal.{JournalView, IsOf}
 use Rattle.journal_store.specs.Stands.{HasGates, StandsForEither}
 use Rattle.exchange_top.specs.Holds.{SpellAll, Holds, HoldsFront, HasStored, IsStep}
 use Rattle.exchange_top.specs.Run.{HoldsAnswered}
@@ -17,7 +17,7 @@ use Rattle.exchange_top.specs.Talk.{Turn}
 
 -- The journal of a run that began with a first history and has another now: it has that stored on an honest disk, and
 -- each image since is one that was there or holds a front of it with the first in it.
-pub record Storing {D : Type 0} (drive : D → Drive) (disk : D) (first history : List Act) (journal : Kept D) : Type 0 where
+pub record Storing {D : Type 0} (drive : D → Drive) (disk : D) (first history : List Act) (journal : JournalView D) : Type 0 where
   pub stored : Honestly (drive disk) (HasStored drive history journal)
   pub since : Honestly (drive disk) ((moment : ℕ) (image : List ℕ) → moment ≤ (drive disk).moment → (drive journal.disk).image_since moment image
       → (drive disk).image_since moment image ⊎ HoldsFront (length first) history image)
@@ -43,19 +43,19 @@ spelled-batch list batch acts payload act is spells all =
     subst (λ (ps : List (List ℕ)). SpellAll (list ++ ps) (acts ++ act ∷ [])) (sym is) (SpellAll-more list acts payload act all spells)
 
 -- a journal with a batch of one act behind its list
-pub stored-more : {D : Type 0} (drive : D → Drive) (before : List Act) (act : Act) (payload : List ℕ) (batch : List (List ℕ)) (journal next : Kept D) (stored : HasStored drive before journal)
+pub stored-more : {D : Type 0} (drive : D → Drive) (before : List Act) (act : Act) (payload : List ℕ) (batch : List (List ℕ)) (journal next : JournalView D) (stored : HasStored drive before journal)
     → batch ≡ payload ∷ [] → Spells payload act → IsOf drive (stored.list ++ batch) next → HasStored drive (before ++ act ∷ []) next
 stored-more drive before act payload batch journal next stored is spells kept =
     record { list = stored.list ++ batch; kept = kept; spelled = spelled-batch stored.list batch before payload act is spells stored.spelled }
 
 -- an image that stands for the list, or for that with the batch
-pub either-holds : {D : Type 0} (drive : D → Drive) (before : List Act) (act : Act) (payload : List ℕ) (batch : List (List ℕ)) (journal : Kept D) (image : List ℕ) (stored : HasStored drive before journal)
+pub either-holds : {D : Type 0} (drive : D → Drive) (before : List Act) (act : Act) (payload : List ℕ) (batch : List (List ℕ)) (journal : JournalView D) (image : List ℕ) (stored : HasStored drive before journal)
     → batch ≡ payload ∷ [] → Spells payload act → StandsForEither stored.list batch image → Holds image before ⊎ Holds image (before ++ act ∷ [])
 either-holds drive before act payload batch journal image stored is spells (inl old) = inl (stored.list, old, stored.spelled)
 either-holds drive before act payload batch journal image stored is spells (inr new) = inr (stored.list ++ batch, new, spelled-batch stored.list batch before payload act is spells stored.spelled)
 
 -- the same at some moment
-pub either-since : {D Early : Type 0} (drive : D → Drive) (before : List Act) (act : Act) (payload : List ℕ) (batch : List (List ℕ)) (journal : Kept D) (image : List ℕ) (stored : HasStored drive before journal)
+pub either-since : {D Early : Type 0} (drive : D → Drive) (before : List Act) (act : Act) (payload : List ℕ) (batch : List (List ℕ)) (journal : JournalView D) (image : List ℕ) (stored : HasStored drive before journal)
     → batch ≡ payload ∷ [] → Spells payload act → Early ⊎ StandsForEither stored.list batch image → Early ⊎ (Holds image before ⊎ Holds image (before ++ act ∷ []))
 either-since drive before act payload batch journal image stored is spells (inl early) = inl early
 either-since drive before act payload batch journal image stored is spells (inr stands) = inr (either-holds drive before act payload batch journal image stored is spells stands)
@@ -67,7 +67,7 @@ spelled-length (p ∷ payloads) [] all = absurd all
 spelled-length (p ∷ payloads) (a ∷ acts) all = ap suc (spelled-length payloads acts all.1)
 
 -- the journal has as many payloads as the history has acts
-pub stored-count : {D : Type 0} (drive : D → Drive) (history : List Act) (journal : Kept D) → HasStored drive history journal → journal.count ≡ length history
+pub stored-count : {D : Type 0} (drive : D → Drive) (history : List Act) (journal : JournalView D) → HasStored drive history journal → journal.count ≡ length history
 stored-count drive history journal stored = stored.kept.count ∙ spelled-length stored.list history stored.spelled
 
 -- what a step that isn't stored yet is: the last act, where the journal has one act less
@@ -85,7 +85,7 @@ step-none before after count (inl same) counted few = same
 step-none before after count (inr more) counted few = absurd (omega (arith, counted, few, ap length more.1, length-append before (more.0 ∷ [])))
 
 -- an image of a disk that has a history stored holds it
-pub stored-holds : {D : Type 0} (drive : D → Drive) (history : List Act) (journal : Kept D) (image : List ℕ) → HasStored drive history journal → (drive journal.disk).image image → Holds image history
+pub stored-holds : {D : Type 0} (drive : D → Drive) (history : List Act) (journal : JournalView D) (image : List ℕ) → HasStored drive history journal → (drive journal.disk).image image → Holds image history
 stored-holds drive history journal image stored now =
     let at = stored.kept.stored in
     let same : image ≡ (drive journal.disk).bytes = at.stored image now in
@@ -139,7 +139,7 @@ step-answered turns before after image step holds = record {
 }
 
 -- the journal as the run begins
-pub storing-init : {D : Type 0} (drive : D → Drive) (history : List Act) (journal : Kept D) → Honestly (drive journal.disk) (HasStored drive history journal) → Storing drive journal.disk history history journal
+pub storing-init : {D : Type 0} (drive : D → Drive) (history : List Act) (journal : JournalView D) → Honestly (drive journal.disk) (HasStored drive history journal) → Storing drive journal.disk history history journal
 storing-init drive history journal stored = record {
   stored = stored;
   since = λ honest moment image early since. inl since;
@@ -157,7 +157,7 @@ since-step least before after image step few back (inr (inl old)) = inr (step-fr
 since-step least before after image step few back (inr (inr new)) = inr (whole-front least after image (omega (arith, few, step-longer before after step)) new)
 
 -- one step more is stored
-pub storing-step : {D : Type 0} (drive : D → Drive) (disk : D) (first before after : List Act) (journal next : Kept D)
+pub storing-step : {D : Type 0} (drive : D → Drive) (disk : D) (first before after : List Act) (journal next : JournalView D)
     → Storing drive disk first before journal → IsStep before after
     → (HasStored drive before journal → HasStored drive after next)
     → (HasStored drive before journal → (moment : ℕ) (image : List ℕ) → moment ≤ (drive journal.disk).moment → (drive next.disk).image_since moment image
@@ -175,7 +175,7 @@ storing-step drive disk first before after journal next s step ok since goes = r
 }
 
 -- while a step was stored that failed, each image since the run began is one that was there or holds a front
-pub storing-since : {D : Type 0} (drive : D → Drive) (disk : D) (first before after : List Act) (journal next : Kept D)
+pub storing-since : {D : Type 0} (drive : D → Drive) (disk : D) (first before after : List Act) (journal next : JournalView D)
     → Storing drive disk first before journal → IsStep before after
     → (HasStored drive before journal → (moment : ℕ) (image : List ℕ) → moment ≤ (drive journal.disk).moment → (drive next.disk).image_since moment image
     → (drive journal.disk).image_since moment image ⊎ (Holds image before ⊎ Holds image after))

@@ -4,7 +4,7 @@ use Rattle.std.specs.List.{AllZip}
 use Rattle.act_bytes.specs.Spelling.{Spells}
 use Rattle.command_words.specs.declared.act.Act.{Act}
 use Rattle.journal_disk.specs.Drive.{Drive}
-use Rattle.journal_store.specs.Journal.{Kept, IsOf}
+use Rattle.journal_store.specs.Journal.{JournalView, IsOf}
 use Rattle.journal_store.specs.Stands.{Stands}
 
 -- the payloads spell the acts, one each
@@ -23,7 +23,7 @@ pub record HoldsFront (least : ℕ) (history : List Act) (image : List ℕ) : Ty
   pub within : acts ≤ length history
 
 -- a journal has just the acts of a history stored, on an honest disk
-pub record HasStored {D : Type 0} (drive : D → Drive) (history : List Act) (journal : Kept D) : Type 0 where
+pub record HasStored {D : Type 0} (drive : D → Drive) (history : List Act) (journal : JournalView D) : Type 0 where
   pub list : List (List ℕ)
   pub kept : IsOf drive list journal
   pub spelled : SpellAll list history

@@ -49,9 +49,9 @@ count_of no_members = 0
 count_of (member name d ms) = suc (count_of ms)
 
 -- how many members an object has; what is no object has none
-abbrev pub counted : Option Members → ℕ
-counted None = 0
-counted (Some ms) = count_of ms
+abbrev pub count_in : Option Members → ℕ
+count_in None = 0
+count_in (Some ms) = count_of ms
 
 abbrev pub member_count : Data → ℕ
-member_count d = counted (as_object d)
+member_count d = count_in (as_object d)

@@ -6,7 +6,7 @@ use Rattle.journal_disk.specs.Drive.{Drive}
 use Rattle.line_link.specs.declared.status.Status.{Status}
 use Rattle.line_link.specs.declared.status.Status.TheVariants as status
 use Rattle.journal_store.specs.Found.{IsForeign}
-use Rattle.journal_store.specs.Journal.{Kept, IsOf}
+use Rattle.journal_store.specs.Journal.{JournalView, IsOf}
 use Rattle.journal_store.specs.declared.outcome.BeginFault.{BeginFault}
 use Rattle.journal_store.specs.declared.outcome.BeginFault.TheVariants as begin
 use Rattle.journal_store.specs.declared.outcome.NextFault.{NextFault}
@@ -22,7 +22,7 @@ use Rattle.exchange_top.specs.declared.recovery.OpenFault.TheVariants.{Disk, Not
 use Rattle.exchange_top.specs.declared.serving.Opened.{Opened}
 
 -- The bytes stand for payloads that spell a history, and the journal is of these.
-pub record Recovers {D : Type 0} (drive : D → Drive) (bytes : List ℕ) (history : List Act) (journal : Kept D) : Type 0 where
+pub record Recovers {D : Type 0} (drive : D → Drive) (bytes : List ℕ) (history : List Act) (journal : JournalView D) : Type 0 where
   pub list : List (List ℕ)
   pub stands : Stands bytes list
   pub spelled : SpellAll list history
@@ -30,40 +30,25 @@ pub record Recovers {D : Type 0} (drive : D → Drive) (bytes : List ℕ) (histo
 
 -- why the bytes give no history, where they are the cause
 abbrev pub Stops : Bounds → List ℕ → OpenFault → Type 0
-Stops limits bytes Disk = ⊤
 Stops limits bytes NotJournal = IsForeign bytes
 Stops limits bytes (Cut place lsn) = IsCutAt limits bytes place lsn
 Stops limits bytes (NotAct place lsn) = IsNoActAt limits bytes place lsn
 Stops limits bytes (Illegal place lsn code) = IsIllegalAt limits bytes place lsn code
-Stops limits bytes Memory = ⊤
+Stops limits bytes why = ⊤
 
 -- the cause isn't in the bytes: the disk failed, or memory was wanting
 abbrev pub IsExcused : OpenFault → Type 0
 IsExcused Disk = ⊤
-IsExcused NotJournal = ⊥
-IsExcused (Cut place lsn) = ⊥
-IsExcused (NotAct place lsn) = ⊥
-IsExcused (Illegal place lsn code) = ⊥
 IsExcused Memory = ⊤
-
--- where the cause is in the bytes, they are as they were
-abbrev pub Unchanged : OpenFault → List ℕ → List ℕ → Type 0
-Unchanged Disk before now = ⊤
-Unchanged NotJournal before now = now ≡ before
-Unchanged (Cut place lsn) before now = now ≡ before
-Unchanged (NotAct place lsn) before now = now ≡ before
-Unchanged (Illegal place lsn code) before now = now ≡ before
-Unchanged Memory before now = ⊤
+IsExcused why = ⊥
 
 -- why a payload in the batch of the gate at a place isn't carried out over a history
 abbrev pub StopsAt : Bounds → List Act → List ℕ → ℕ → OpenFault → Type 0
-StopsAt limits history payload place Disk = ⊥
-StopsAt limits history payload place NotJournal = ⊥
-StopsAt limits history payload place (Cut here lsn) = ⊥
 StopsAt limits history payload place (NotAct here lsn) = (here ≡ place) × (lsn ≡ length history) × ((act : Act) → Spells payload act → ⊥)
 StopsAt limits history payload place (Illegal here lsn code) =
     (here ≡ place) × (lsn ≡ length history) × (act : Act) × Spells payload act × IsRefused limits history act code
 StopsAt limits history payload place Memory = ⊤
+StopsAt limits history payload place why = ⊥
 
 -- a payload is carried out over a history: it spells the act that is its next
 pub record IsRedone (history after : List Act) (payload : List ℕ) : Type 0 where

@@ -1,11 +1,11 @@
 //! One line in, one reply out, over the exchange.
 
 ghost use Rattle.std.specs.Prelude.{◌≡◌, length, true};
-ghost use Rattle.line_link.specs.Heard.{heard};
+ghost use Rattle.line_link.specs.LineReader.{heard};
 ghost use Rattle.line_link.specs.Lines.{kept};
 ghost use Rattle.command_words.specs.Command.{in_ranges, is_built};
 ghost use Rattle.settle_core.specs.Reply.{Answered};
-ghost use Rattle.settle_core.specs.State.{asked};
+ghost use Rattle.settle_core.specs.Exchange.{asked};
 ghost use Rattle.exchange_top.specs.Holds.{IsStep};
 ghost use Rattle.exchange_top.specs.Talk.{AnsweredLine, refused_reply};
 

@@ -19,6 +19,3 @@ pub use program::run;
 pub use recovery::{OpenFailed, OpenFault, recover};
 pub use serving::{MAX_INPUT, Opened};
 pub use wire_json::{Request, TEXT_BYTES, Text, read_line, write_reply};
-
-#[cfg(test)]
-mod tests;

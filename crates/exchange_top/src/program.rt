@@ -7,7 +7,7 @@ ghost use Rattle.settle_core.specs.Bounds.{standard};
 ghost use Rattle.settle_core.specs.Legal.{IsLegal};
 ghost use Rattle.exchange_top.specs.Holds.{Holds};
 ghost use Rattle.exchange_top.specs.Recovery.{Stops, status_of};
-ghost use Rattle.exchange_top.specs.Run.{Ran, Stopped, Says, IsDamaged, IsServed};
+ghost use Rattle.exchange_top.specs.Run.{outside, Ran, Stopped, Says, IsDamaged, IsServed};
 ghost use Rattle.exchange_top.specs.Words.{is_run};
 ghost use Rattle.exchange_top.specs.declared.serving.TheConstants.{MAX_INPUT};
 
@@ -36,10 +36,9 @@ pub fn run<R: Source, W: Sink, D: Disk, C: Clock>(
     clock: &mut C,
 ) -> Ended<D>
     // What was read, what it was answered, what was stored and what was written; or that the journal wasn't opened.
-    ensures ran { Ran D.drive disk result (R.left source.old) (R.left source.new) (W.held sink.old) (W.held sink.new)
-        (C.may_have_told clock.old) (C.may_have_told clock.new)
-        ⊎ Stopped D.drive disk result (R.left source.old) (R.left source.new) (W.held sink.old) (W.held sink.new)
-        (C.may_have_told clock.old) (C.may_have_told clock.new) }
+    ensures ran { let before = outside (R.left source.old) (W.held sink.old) (C.may_have_told clock.old) in
+        let after = outside (R.left source.new) (W.held sink.new) (C.may_have_told clock.new) in
+        Ran D.drive disk result before after ⊎ Stopped D.drive disk result before after }
 
     // Why it ended so.
     ensures words { (result.status ≡ Status.Words) ↔ (is_run words.now ≡ false) }

@@ -1,15 +1,15 @@
 //! Reading a journal back into an exchange.
 
-ghost use Rattle.std.specs.Prelude.{◌≡◌, ◌≢◌, ◌⊎◌, ℕ, ◌≤◌, List, [], ◌∷◌, ◌++◌, length, false, IfOk, IfErr, OnOk, OnErr};
+ghost use Rattle.std.specs.Prelude.{◌≡◌, ◌≢◌, ◌⊎◌, ℕ, ◌<◌, ◌≤◌, List, [], ◌∷◌, ◌++◌, length, false, IfOk, IfErr, OnOk, OnErr};
 ghost use Rattle.command_words.specs.declared.act.Act.{Act};
 ghost use Rattle.journal_disk.specs.Drive.{Honestly, IsStored};
 ghost use Rattle.journal_disk.specs.Steps.{GoesOn, Leaves};
 ghost use Rattle.journal_store.specs.Found.{StandsAs};
-ghost use Rattle.journal_store.specs.Reading.{HasTold};
+ghost use Rattle.journal_store.specs.Reader.{HasTold};
 ghost use Rattle.outside_faults.specs.Faults.{Rose};
 ghost use Rattle.settle_core.specs.Legal.{IsLegal};
 ghost use Rattle.exchange_top.specs.Holds.{Holds};
-ghost use Rattle.exchange_top.specs.Recovery.{Recovers, Stops, StopsAt, IsRedone, IsExcused, Unchanged, disk_of, of_begin, of_next};
+ghost use Rattle.exchange_top.specs.Recovery.{Recovers, Stops, StopsAt, IsRedone, IsExcused, disk_of, of_begin, of_next};
 ghost use Rattle.exchange_top.specs.declared.recovery.OpenFault.TheVariants.{Disk, NotJournal};
 
 use crate::serving::Opened;
@@ -76,8 +76,8 @@ pub struct OpenFailed<D> {
 
 /// Opens the journal of a disk and carries its acts out again, one after another.
 ///
-/// On a disk of at most 17 bytes an empty journal is made. The first place of the journal that gives no act decides:
-/// where it is told, no byte was changed.
+/// On a disk of at most 17 bytes an empty journal is made, and a longer one is left as it was. The first place of the
+/// journal that gives no act decides.
 pub fn recover<D: Disk>(alloc: Global, limits: Limits, disk: D) -> Result<Opened<D>, OpenFailed<D>>
     ensures ok { IfOk result (λ opened. Honestly (D.drive disk) (Recovers D.drive (D.drive disk).bytes opened.exchange.history opened.journal)) }
     ensures limits { IfOk result (λ opened. opened.exchange.limits ≡ limits) }
@@ -87,11 +87,12 @@ pub fn recover<D: Disk>(alloc: Global, limits: Limits, disk: D) -> Result<Opened
     ensures cause { IfErr result (λ failed. failed.why ≡ Disk → Rose (D.drive disk).faults (D.drive failed.disk).faults) }
     ensures excused { (history : List Act) → Honestly (D.drive disk) (Holds (D.drive disk).bytes history → IsLegal limits history → IfErr result (λ failed. IsExcused failed.why)) }
 
+    // A disk of more than 17 bytes is left as it was, whatever the answer.
+    ensures leaves { Honestly (D.drive disk) (17 < length (D.drive disk).bytes → Leaves (D.drive disk) (D.drive (disk_of result))) }
     // Where nothing was pending, each image since the call began stands for what the bytes stood for.
     ensures image { Honestly (D.drive disk) (IsStored (D.drive disk) → (image : List ℕ) → (D.drive (disk_of result)).image image → StandsAs (D.drive disk).bytes image) }
     ensures since { Honestly (D.drive disk) (IsStored (D.drive disk) → (moment : ℕ) (image : List ℕ) → moment ≤ (D.drive disk).moment
         → (D.drive (disk_of result)).image_since moment image → (D.drive disk).image_since moment image ⊎ StandsAs (D.drive disk).bytes image) }
-    ensures unchanged { IfErr result (λ failed. Honestly (D.drive disk) (Unchanged failed.why (D.drive disk).bytes (D.drive failed.disk).bytes)) }
     ensures never_falls { (D.drive disk).faults ≤ (D.drive (disk_of result)).faults }
     ensures goes_on { GoesOn (D.drive disk) (D.drive (disk_of result)) }
 {

@@ -7,7 +7,7 @@ ghost use Rattle.outside_faults.specs.Told.{IfTold};
 ghost use Rattle.settle_core.specs.Bounds.{standard};
 ghost use Rattle.settle_core.specs.Legal.{IsLegal};
 ghost use Rattle.exchange_top.specs.Holds.{HasStored};
-ghost use Rattle.exchange_top.specs.Run.{Served};
+ghost use Rattle.exchange_top.specs.Run.{outside, Served};
 ghost use Rattle.exchange_top.specs.declared.serving.TheConstants.{MAX_INPUT};
 
 use crate::answering::answer_line;
@@ -81,8 +81,9 @@ pub(crate) fn serve<R: Source, W: Sink, D: Disk, C: Clock>(
     requires count { opened.journal.count ≡ length opened.exchange.history }
     requires stored { Honestly (D.drive opened.journal.disk) (HasStored D.drive opened.exchange.history opened.journal) }
 
-    ensures served { Served D.drive opened.journal.disk opened.exchange.history result (R.left source.old) (R.left source.new)
-        (W.held sink.old) (W.held sink.new) (C.may_have_told clock.old) (C.may_have_told clock.new) }
+    ensures served { Served D.drive opened.journal.disk opened.exchange.history result
+        (outside (R.left source.old) (W.held sink.old) (C.may_have_told clock.old))
+        (outside (R.left source.new) (W.held sink.new) (C.may_have_told clock.new)) }
 
     ensures read_fault { result.status ≡ Status.ReadFault → Rose (R.read_faults source.old) (R.read_faults source.new) }
     ensures write_fault { result.status ≡ Status.WriteFault → Rose (W.write_faults sink.old) (W.write_faults sink.new) }

@@ -1,6 +1,7 @@
 use Rattle.std.proofs.Common.{◌≡◌, true, refl, sym, subst, inl, inr, arith}
+use Rattle.journal_disk.specs.Steps.{Leaves}
 use Rattle.outside_faults.specs.Faults.{Rose}
-use Rattle.outside_faults.specs.Told.{IfTold-same}
+use Rattle.outside_faults.proofs.Told.{IfTold-same}
 use Rattle.settle_core.specs.Bounds.{Bounds}
 use Rattle.settle_core.specs.Legal.{IsLegal}
 use Rattle.exchange_top.specs.Recovery.{Stops}
@@ -11,7 +12,7 @@ pub returns-in-Ok-recover-clause-ran : goal.returns-in-Ok-recover-clause-ran
 returns-in-Ok-recover-clause-ran g c =
     let drive = g.D.Disk.drive in
     let recovered = c.in-Ok-recover.ensures in
-    inl (ran-served drive g.D.Disk.is_drive c.args.disk c.in-Ok-recover.opened.journal.disk c.in-Ok-recover.opened.exchange.history c.serve.result _ _ _ _ _ _
+    inl (ran-served drive g.D.Disk.is_drive c.args.disk c.in-Ok-recover.opened.journal.disk c.in-Ok-recover.opened.exchange.history c.serve.result _ _
     c.serve.ensures.served recovered.goes_on (λ honest. let r = recovered.ok honest in (r.list, r.stands, r.spelled)) recovered.since)
 
 pub returns-in-Err-recover-clause-ran : goal.returns-in-Err-recover-clause-ran
@@ -24,7 +25,8 @@ returns-in-Err-recover-clause-ran g c =
       lines = c.stop.ensures.lines.0;
       acts = c.stop.ensures.lines.1;
       read = IfTold-same (g.R.Source.left c.args.source.now) _ (λ input. refl);
-      moments = λ before was. was;
+      moments = λ earlier was. was;
+      leaves = λ honest long. subst (λ (d : g.row.D.Denot). Leaves (drive disk) (drive d)) (sym c.stop.ensures.disk) (failed.leaves honest long);
       since = λ honest stored image now.
           stands-since drive g.D.Disk.is_drive disk image stored
           (failed.since honest stored (drive disk).moment image (omega arith) (subst (λ (d : g.row.D.Denot). (drive d).image_since (drive disk).moment image) c.stop.ensures.disk now));

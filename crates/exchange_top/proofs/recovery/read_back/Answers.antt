@@ -3,7 +3,7 @@ use Rattle.std.specs.Prelude.{Ok}
 use Rattle.command_words.specs.declared.act.Act.{Act}
 use Rattle.settle_core.specs.Bounds.{Bounds}
 use Rattle.settle_core.specs.Legal.{IsLegal}
-use Rattle.journal_store.specs.Reading.{Tells}
+use Rattle.journal_store.specs.Reader.{Tells}
 use Rattle.journal_store.specs.declared.outcome.Next.{Next}
 use Rattle.exchange_top.specs.Recovery.{Stops, StopsAt, IsRedone, of_next}
 use Rattle.exchange_top.proofs.Recoveries.{told-more, why-of, stops-next, stops-at, leaves-trans}

@@ -2,7 +2,7 @@ use Rattle.std.proofs.Common.{◌≡◌, ◌≤◌, ◌+◌, ◌-◌, [], length
 use Rattle.command_words.specs.declared.act.TheConstants.{MAX_HISTORY}
 use Rattle.journal_disk.specs.Drive.{Honestly}
 use Rattle.journal_disk.specs.Steps.{GoesOn, Leaves}
-use Rattle.journal_store.specs.Reading.{HasTold}
+use Rattle.journal_store.specs.Reader.{HasTold}
 use Rattle.exchange_top.proofs.Recoveries.{ToldActs}
 use Rattle.exchange_top.proofs.recovery.read_back.Given as goal
 
