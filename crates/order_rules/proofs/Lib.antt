@@ -1,0 +1,3 @@
+mod Crossings
+mod Quotients
+mod Spending

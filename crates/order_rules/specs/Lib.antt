@@ -1,0 +1,5 @@
+pub mod Crossing
+pub mod Fits
+pub mod Kinds
+pub mod Orders
+pub mod Prices
