@@ -1,0 +1,11 @@
+mod Carried
+mod Fresh
+mod Funding
+mod Given
+mod Held
+mod Movements
+mod Net
+mod Positions
+mod Room
+mod Sums
+mod Supplies

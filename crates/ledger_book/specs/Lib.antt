@@ -1,0 +1,4 @@
+pub mod Ledger
+pub mod Naming
+pub mod Postings
+pub mod Staging
