@@ -1,0 +1,29 @@
+//! Runs the exchange over memory on the cases of the present folder, and compares what comes out with what each
+//! case wants.
+//!
+//! A file `NAME.case` has to be met, and a file `NAME.wrong` has to be found wrong, or the comparing would tell
+//! nothing. README.md says how a case is written.
+#![tactic(auto)]
+
+mod block;
+mod comparing;
+mod fault;
+mod folder;
+mod reading;
+mod running;
+mod sheet;
+mod spelling;
+
+use folder::check_folder;
+use std::process::ExitCode;
+
+fn main(rt: HostRuntime) -> ExitCode {
+    match check_folder(&rt) {
+        Ok(true) => ExitCode::SUCCESS,
+        Ok(false) => ExitCode::FAILURE,
+        Err(fault) => {
+            let _ = eprintln!(rt; "{fault}");
+            ExitCode::FAILURE
+        }
+    }
+}
