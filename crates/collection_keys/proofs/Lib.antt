@@ -1,7 +1,7 @@
-mod Joining
+pub mod Joining
 mod Moving
 mod Parts
 mod Placing
-mod Sameness
+pub mod Sameness
 mod Sound
 mod Storing

@@ -1,2 +1,2 @@
 pub mod FirstPlaces
-mod Unions
+pub mod Unions
