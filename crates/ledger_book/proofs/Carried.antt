@@ -2,7 +2,7 @@
 use Rattle.std.proofs.Common.{◌≡◌, ℕ, ◌+◌, ◌<◌, List, [], ◌∷◌, Bool, true, false, length, take, get_or, refl, sym, ◌∙◌, ap, subst, arith, inl, inr}
 use Rattle.std.specs.Bool.{Decides}
 use Rattle.std.specs.List.{list_any}
-use Rattle.std.specs.Prelude.{◌||◌, cond, sum_by}
+use Rattle.std.specs.Prelude.{◌||◌, ◌&&◌, cond, sum_by}
 use Rattle.std.proofs.lemmas.Bool.{cases_Bool, or_parts}
 use Rattle.std.proofs.lemmas.List.Folds.{list_any_more}
 use Rattle.std.proofs.lemmas.List.Sums.{sum_by-cons}
@@ -11,6 +11,10 @@ use Rattle.ledger_book.specs.declared.posting.Posting.{Posting}
 pub or_true : (b : Bool) → (b || true) ≡ true
 or_true true = refl
 or_true false = refl
+
+pub and_second : (a b : Bool) → (a && b) ≡ false → a ≡ true → b ≡ false
+and_second true b none is = none
+and_second false b none is = cc
 
 or_false : (b : Bool) → (b || false) ≡ b
 or_false true = refl
@@ -50,11 +54,11 @@ module _ {K : Type 0} (same : K → K → Bool) (exact : (j k : K) → Decides (
   seen_next : (ps : List Posting) (i : ℕ) (p : Posting) (q : K) → i < length ps → p ≡ get_or ps i p → seen (take (i + 1) ps) q ≡ (seen (take i ps) q || same q (at p))
   seen_next ps i p q below is = list_any_more (λ r. same q (at r)) ps i p below ∙ ap (λ (r : Posting). seen (take i ps) q || same q (at r)) (sym is)
 
-  seen_more : (ps : List Posting) (i : ℕ) (p : Posting) (q : K) → i < length ps → p ≡ get_or ps i p → same (at p) q ≡ false → seen (take i ps) q ≡ seen (take (i + 1) ps) q
+  pub seen_more : (ps : List Posting) (i : ℕ) (p : Posting) (q : K) → i < length ps → p ≡ get_or ps i p → same (at p) q ≡ false → seen (take i ps) q ≡ seen (take (i + 1) ps) q
   seen_more ps i p q below is apart =
       sym (seen_next ps i p q below is ∙ ap (λ b. seen (take i ps) q || b) (other_way (at p) q apart) ∙ or_false (seen (take i ps) q))
 
-  seen_here : (ps : List Posting) (i : ℕ) (p : Posting) → i < length ps → p ≡ get_or ps i p → seen (take (i + 1) ps) (at p) ≡ true
+  pub seen_here : (ps : List Posting) (i : ℕ) (p : Posting) → i < length ps → p ≡ get_or ps i p → seen (take (i + 1) ps) (at p) ≡ true
   seen_here ps i p below is =
       seen_next ps i p (at p) below is ∙ ap (λ b. seen (take i ps) (at p) || b) ((exact (at p) (at p)).1 refl) ∙ or_true (seen (take i ps) (at p))
 

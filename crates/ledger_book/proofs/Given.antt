@@ -12,7 +12,7 @@ use Rattle.collection_keys.specs.Comparing.{same_collection}
 use Rattle.ledger_book.specs.Ledger.{supply_in}
 use Rattle.ledger_book.specs.Naming.{has}
 
-is_none : {X : Type 0} (o : Option X) → is_some o ≡ false → o ≡ None
+pub is_none : {X : Type 0} (o : Option X) → is_some o ≡ false → o ≡ None
 is_none None none = refl
 is_none (Some x) none = cc
 
@@ -81,3 +81,10 @@ keys_same (e ∷ es) k v there =
           let later : has (keys_of es) k ≡ true = sym (ap (λ b. b || has (keys_of es) k) differ) ∙ there in
           ap keys_of (cond-false (same_collection k e.0) ((e.0, v) ∷ es) (e ∷ insert_entry same_collection es k v) differ) ∙ ap (λ (js : List Pairs). e.0 ∷ js) (keys_same es k v later)
     ]
+
+-- it is put behind the others
+pub entries_new : (es : List (Pairs × ℕ)) (k : Pairs) → has (keys_of es) k ≡ false → insert_entry same_collection es k 0 ≡ es ++ (k, 0) ∷ []
+entries_new [] k absent = refl
+entries_new (e ∷ es) k absent =
+    let parts = or_parts (same_collection k e.0) (has (keys_of es) k) absent in
+    cond-false (same_collection k e.0) ((e.0, 0) ∷ es) (e ∷ insert_entry same_collection es k 0) parts.0 ∙ ap (λ (fs : List (Pairs × ℕ)). e ∷ fs) (entries_new es k parts.1)

@@ -7,12 +7,12 @@ use Rattle.std.proofs.lemmas.List.Sums.{sum_by-cons}
 use Rattle.condition_sets.specs.declared.amount.TheConstants.{MAX_AMOUNT}
 use Rattle.collection_keys.specs.Collections.{Pairs}
 use Rattle.collection_keys.specs.Comparing.{same_collection}
-use Rattle.ledger_book.specs.Ledger.{Position, same_position, amount_in, supply_in, sum_below, past_accounts, IsBalanced}
+use Rattle.ledger_book.specs.Ledger.{Position, same_position, sum_below, IsBalanced}
 use Rattle.ledger_book.specs.Naming.{has, is_change, new_names}
-use Rattle.ledger_book.specs.Postings.{paid_to, taken_from, minted, burnt, credits, debits}
+use Rattle.ledger_book.specs.Postings.{paid_to, taken_from, minted, burnt, credits, debits, IsFunded}
 use Rattle.ledger_book.specs.declared.posting.Posting.{Posting}
+use Rattle.ledger_book.proofs.Carried.{and_second}
 use Rattle.ledger_book.proofs.Fresh.{is_touched, untouched}
-use Rattle.ledger_book.proofs.Held.{amount_in-past}
 use Rattle.ledger_book.proofs.Movements.{nothing_at}
 use Rattle.ledger_book.proofs.Positions.{position_Decides, at}
 use Rattle.ledger_book.proofs.Sums.{sum_below-same, sum_below-add, sum_below-none, sum_below-more, sum_below-le, sum_below-slack, sum_below-single}
@@ -38,68 +38,63 @@ minted_sum ps k n fits = summed (paid_to k) ps n fits
 burnt_sum : (ps : List Posting) (k : Pairs) (n : ℕ) → accounts_in ps ≤ n → burnt ps k ≡ sum_below n (λ a. debits ps a k)
 burnt_sum ps k n fits = summed (taken_from k) ps n fits
 
-held_sum : (es : List (Position × ℕ)) (k : Pairs) (n : ℕ) → past_accounts es ≤ n → sum_below n (λ a. amount_in es a k) ≡ sum_below (past_accounts es) (λ a. amount_in es a k)
-held_sum es k n fits = sum_below-more (past_accounts es) n (λ a. amount_in es a k) fits (λ a past. amount_in-past es a k past)
+held_sum : (m : ℕ) (held : ℕ → Pairs → ℕ) (supplied : Pairs → ℕ) (k : Pairs) (n : ℕ) → IsBalanced m held supplied → m ≤ n → supplied k ≡ sum_below n (λ a. held a k)
+held_sum m held supplied k n balanced fits = omega (arith, balanced.sums k, sum_below-more m n (λ a. held a k) fits (λ a past. balanced.past a k past))
 
 -- no supply falls below 0 where no amount does
-pub net_low : (es : List (Position × ℕ)) (ss : List (Pairs × ℕ)) (ps : List Posting) → IsBalanced es ss
-    → ((a : ℕ) (k : Pairs) → debits ps a k ≤ amount_in es a k + credits ps a k) → (k : Pairs) → burnt ps k ≤ supply_in ss k + minted ps k
-net_low es ss ps balanced funded k =
-    let n = past_accounts es + accounts_in ps in
+pub net_low : (m : ℕ) (held : ℕ → Pairs → ℕ) (supplied : Pairs → ℕ) (ps : List Posting) → IsBalanced m held supplied
+    → IsFunded held ps → (k : Pairs) → burnt ps k ≤ supplied k + minted ps k
+net_low m held supplied ps balanced funded k =
+    let n = m + accounts_in ps in
     omega (
       arith,
-      balanced.sums k,
-      held_sum es k n (omega arith),
+      held_sum m held supplied k n balanced (omega arith),
       minted_sum ps k n (omega arith),
       burnt_sum ps k n (omega arith),
-      sum_below-add n (λ a. amount_in es a k) (λ a. credits ps a k),
-      sum_below-le n (λ a. amount_in es a k + credits ps a k) (λ a. debits ps a k) (λ a. funded a k),
+      sum_below-add n (λ a. held a k) (λ a. credits ps a k),
+      sum_below-le n (λ a. held a k + credits ps a k) (λ a. debits ps a k) (λ a. funded a k),
     )
 
 -- no amount is above the limit where no supply is
-pub net_high : (es : List (Position × ℕ)) (ss : List (Pairs × ℕ)) (ps : List Posting) → IsBalanced es ss
-    → ((a : ℕ) (k : Pairs) → debits ps a k ≤ amount_in es a k + credits ps a k) → ((k : Pairs) → supply_in ss k + minted ps k ≤ MAX_AMOUNT + burnt ps k)
-    → (a : ℕ) (k : Pairs) → amount_in es a k + credits ps a k ≤ MAX_AMOUNT + debits ps a k
-net_high es ss ps balanced funded admitted a k =
-    let n = past_accounts es + accounts_in ps + (a + 1) in
+pub net_high : (m : ℕ) (held : ℕ → Pairs → ℕ) (supplied : Pairs → ℕ) (ps : List Posting) → IsBalanced m held supplied
+    → IsFunded held ps → ((k : Pairs) → supplied k + minted ps k ≤ MAX_AMOUNT + burnt ps k)
+    → (a : ℕ) (k : Pairs) → held a k + credits ps a k ≤ MAX_AMOUNT + debits ps a k
+net_high m held supplied ps balanced funded admitted a k =
+    let n = m + accounts_in ps + (a + 1) in
     omega (
       arith,
       admitted k,
-      balanced.sums k,
-      held_sum es k n (omega arith),
+      held_sum m held supplied k n balanced (omega arith),
       minted_sum ps k n (omega arith),
       burnt_sum ps k n (omega arith),
-      sum_below-add n (λ b. amount_in es b k) (λ b. credits ps b k),
-      sum_below-slack n a (λ b. amount_in es b k + credits ps b k) (λ b. debits ps b k) (λ b. funded b k) (omega arith),
+      sum_below-add n (λ b. held b k) (λ b. credits ps b k),
+      sum_below-slack n a (λ b. held b k + credits ps b k) (λ b. debits ps b k) (λ b. funded b k) (omega arith),
     )
 
 -- what is balanced stays so when amounts and supplies move by the same postings
-pub net_balanced : (es fs : List (Position × ℕ)) (ss ts : List (Pairs × ℕ)) (ps : List Posting) → IsBalanced es ss
-    → ((k : Pairs) → supply_in ss k + minted ps k ≤ MAX_AMOUNT + burnt ps k)
-    → ((a : ℕ) (k : Pairs) → amount_in fs a k + debits ps a k ≡ amount_in es a k + credits ps a k)
-    → ((k : Pairs) → supply_in ts k + burnt ps k ≡ supply_in ss k + minted ps k) → IsBalanced fs ts
-net_balanced es fs ss ts ps balanced admitted amounts supplies =
-    let n = past_accounts es + past_accounts fs + accounts_in ps in
+pub net_balanced : (m : ℕ) (held next : ℕ → Pairs → ℕ) (supplied given : Pairs → ℕ) (ps : List Posting) → IsBalanced m held supplied
+    → ((k : Pairs) → supplied k + minted ps k ≤ MAX_AMOUNT + burnt ps k)
+    → ((a : ℕ) (k : Pairs) → m ≤ a → next a k ≡ 0)
+    → ((a : ℕ) (k : Pairs) → next a k + debits ps a k ≡ held a k + credits ps a k)
+    → ((k : Pairs) → given k + burnt ps k ≡ supplied k + minted ps k) → IsBalanced m next given
+net_balanced m held next supplied given ps balanced admitted past amounts supplies =
+    let n = m + accounts_in ps in
     record {
+      past = past;
       sums = λ k.
           omega (
             arith,
             supplies k,
-            balanced.sums k,
-            held_sum es k n (omega arith),
-            held_sum fs k n (omega arith),
+            held_sum m held supplied k n balanced (omega arith),
+            sum_below-more m n (λ a. next a k) (omega arith) (λ a beyond. past a k beyond),
             minted_sum ps k n (omega arith),
             burnt_sum ps k n (omega arith),
-            sum_below-add n (λ a. amount_in es a k) (λ a. credits ps a k),
-            sum_below-add n (λ a. amount_in fs a k) (λ a. debits ps a k),
-            sum_below-same n (λ a. amount_in fs a k + debits ps a k) (λ a. amount_in es a k + credits ps a k) (λ a. amounts a k),
+            sum_below-add n (λ a. held a k) (λ a. credits ps a k),
+            sum_below-add n (λ a. next a k) (λ a. debits ps a k),
+            sum_below-same n (λ a. next a k + debits ps a k) (λ a. held a k + credits ps a k) (λ a. amounts a k),
           );
       within = λ k. omega (arith, supplies k, admitted k);
     }
-
-and_second : (a b : Bool) → (a && b) ≡ false → a ≡ true → b ≡ false
-and_second true b none is = none
-and_second false b none is = cc
 
 same_from : (m n : ℕ) → not (m == n) ≡ false → m ≡ n
 same_from m n same = eqb-true m n (not_false (m == n) same)
@@ -121,15 +116,16 @@ left all (p ∷ ps) a k untouched there =
       | inr later ↦ left all ps a k parts.1 later
     ]
 
--- a collection that has no name, and gets none, has the supply that it had
+-- a collection that has no name, and gets none, has the amounts that it had
+pub net_still : (old : List Pairs) (ps : List Posting) (a : ℕ) (k : Pairs) → has (old ++ new_names old ps) k ≡ false → credits ps a k ≡ debits ps a k
+net_still old ps a k nowhere =
+    elim (cases_Bool (list_any (λ (p : Posting). same_position (a, k) (at p)) ps)) [
+      | inl there ↦ left ps ps a k (untouched old ps k nowhere) there
+      | inr absent ↦ let none = nothing_at ps a k absent in omega (arith, none.0, none.1)
+    ]
+
+-- and the supply
 pub net_unnamed : (old : List Pairs) (ps : List Posting) (k : Pairs) → has (old ++ new_names old ps) k ≡ false → minted ps k ≡ burnt ps k
 net_unnamed old ps k nowhere =
     let n = accounts_in ps in
-    let still = untouched old ps k nowhere in
-    let each : (a : ℕ) → credits ps a k ≡ debits ps a k
-    = λ a.
-    elim (cases_Bool (list_any (λ (p : Posting). same_position (a, k) (at p)) ps)) [
-      | inl there ↦ left ps ps a k still there
-      | inr absent ↦ let none = nothing_at ps a k absent in omega (arith, none.0, none.1)
-    ] in
-    omega (arith, minted_sum ps k n (omega arith), burnt_sum ps k n (omega arith), sum_below-same n (λ a. credits ps a k) (λ a. debits ps a k) each)
+    omega (arith, minted_sum ps k n (omega arith), burnt_sum ps k n (omega arith), sum_below-same n (λ a. credits ps a k) (λ a. debits ps a k) (λ a. net_still old ps a k nowhere))

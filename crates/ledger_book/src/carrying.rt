@@ -1,57 +1,77 @@
 //! The carrying out of postings: each position, and each supply, is changed once, by the net of all postings, since what
 //! one posting alone would leave may be below 0 or above every limit.
 
-ghost use Rattle.std.specs.Prelude.{◌≡◌, ◌==◌, ℕ, ◌+◌, ◌<◌, ◌≤◌, false, length};
-ghost use Rattle.std.specs.HashMap.{spare};
+ghost use Rattle.std.specs.Prelude.{◌≡◌, ◌==◌, ℕ, ◌+◌, ◌<◌, ◌≤◌, true, false, length};
 ghost use Rattle.std.specs.List.{list_any};
 ghost use Rattle.std.specs.Map.{keys_of};
+ghost use Rattle.std.specs.Option.{is_some};
 ghost use Rattle.condition_sets.specs.declared.amount.TheConstants.{MAX_AMOUNT};
 ghost use Rattle.collection_keys.specs.Collections.{Pairs};
 ghost use Rattle.collection_keys.specs.Comparing.{same_collection};
-ghost use Rattle.ledger_book.specs.Ledger.{same_position, amount_in, supply_in};
+ghost use Rattle.ledger_book.specs.Ledger.{same_position, amount_in, supply_in, rows, kept, is_placed, are_placed};
 ghost use Rattle.ledger_book.specs.Naming.{has};
 ghost use Rattle.ledger_book.specs.Postings.{credits, debits, minted, burnt};
 
+use crate::keeping::{keep, kept};
 use crate::moved::{burnt, credits, debits, minted};
 use crate::posting::Posting;
 use collection_keys::Collection;
 use condition_sets::{AccountId, MAX_AMOUNT};
 use indexmap::IndexMap;
+use std::collections::BTreeMap;
 
 // Carries the postings out on what the accounts hold.
-pub(crate) fn post_all(amounts: &mut IndexMap<(AccountId, Collection), u64>, postings: &[Posting])
-    requires low { (a : ℕ) (k : Pairs) → debits postings.now a k ≤ amount_in amounts.old.entries a k + credits postings.now a k }
-    requires high { (a : ℕ) (k : Pairs) → amount_in amounts.old.entries a k + credits postings.now a k ≤ MAX_AMOUNT + debits postings.now a k }
-    requires room { length postings.now ≤ spare amounts.old }
+pub(crate) fn post_all(
+    accounts: &mut [BTreeMap<usize, u64>],
+    supplies: &IndexMap<Collection, u64>,
+    postings: &[Posting],
+)
+    requires low { (a : ℕ) (k : Pairs) → debits postings.now a k ≤ amount_in (rows accounts.old) (keys_of supplies.now.entries) a k + credits postings.now a k }
+    requires high { (a : ℕ) (k : Pairs) → amount_in (rows accounts.old) (keys_of supplies.now.entries) a k + credits postings.now a k ≤ MAX_AMOUNT + debits postings.now a k }
+    requires unnamed { (a : ℕ) (k : Pairs) → has (keys_of supplies.now.entries) k ≡ false → credits postings.now a k ≡ debits postings.now a k }
+    requires placed { are_placed (rows accounts.old) (keys_of supplies.now.entries) postings.now ≡ true }
 
-    ensures { (a : ℕ) (k : Pairs) → amount_in amounts.new.entries a k + debits postings.now a k ≡ amount_in amounts.old.entries a k + credits postings.now a k }
+    ensures amounts { (a : ℕ) (k : Pairs) → amount_in (rows accounts.new) (keys_of supplies.now.entries) a k + debits postings.now a k ≡ amount_in (rows accounts.old) (keys_of supplies.now.entries) a k + credits postings.now a k }
+    ensures behind { (a n : ℕ) → length supplies.now.entries ≤ n → kept (rows accounts.new) a n ≡ kept (rows accounts.old) a n }
 {
     for (place, posting) in postings.iter().enumerate() {
         if !is_position_in(&postings[..place], posting) {
-            post(amounts, postings, posting);
+            post(accounts, supplies, postings, posting);
         }
     }
 }
 
 // Carries out what all postings together change at the position of one of them.
 fn post(
-    amounts: &mut IndexMap<(AccountId, Collection), u64>,
+    accounts: &mut [BTreeMap<usize, u64>],
+    supplies: &IndexMap<Collection, u64>,
     postings: &[Posting],
     posting: &Posting,
 )
-    requires low { debits postings.now posting.now.account posting.now.collection ≤ amount_in amounts.old.entries posting.now.account posting.now.collection + credits postings.now posting.now.account posting.now.collection }
-    requires high { amount_in amounts.old.entries posting.now.account posting.now.collection + credits postings.now posting.now.account posting.now.collection ≤ MAX_AMOUNT + debits postings.now posting.now.account posting.now.collection }
-    requires room { 0 < spare amounts.old }
+    requires low { debits postings.now posting.now.account posting.now.collection ≤ amount_in (rows accounts.old) (keys_of supplies.now.entries) posting.now.account posting.now.collection + credits postings.now posting.now.account posting.now.collection }
+    requires high { amount_in (rows accounts.old) (keys_of supplies.now.entries) posting.now.account posting.now.collection + credits postings.now posting.now.account posting.now.collection ≤ MAX_AMOUNT + debits postings.now posting.now.account posting.now.collection }
+    requires unnamed { has (keys_of supplies.now.entries) posting.now.collection ≡ false → credits postings.now posting.now.account posting.now.collection ≡ debits postings.now posting.now.account posting.now.collection }
+    requires placed { is_placed (rows accounts.old) (keys_of supplies.now.entries) posting.now ≡ true }
 
-    ensures here { amount_in amounts.new.entries posting.now.account posting.now.collection + debits postings.now posting.now.account posting.now.collection ≡ amount_in amounts.old.entries posting.now.account posting.now.collection + credits postings.now posting.now.account posting.now.collection }
-    ensures other { (a : ℕ) (k : Pairs) → same_position (posting.now.account, posting.now.collection) (a, k) ≡ false → amount_in amounts.new.entries a k ≡ amount_in amounts.old.entries a k }
-    ensures room { spare amounts.old ≤ spare amounts.new + 1 }
+    ensures here { amount_in (rows accounts.new) (keys_of supplies.now.entries) posting.now.account posting.now.collection + debits postings.now posting.now.account posting.now.collection ≡ amount_in (rows accounts.old) (keys_of supplies.now.entries) posting.now.account posting.now.collection + credits postings.now posting.now.account posting.now.collection }
+    ensures other { (a : ℕ) (k : Pairs) → same_position (posting.now.account, posting.now.collection) (a, k) ≡ false → amount_in (rows accounts.new) (keys_of supplies.now.entries) a k ≡ amount_in (rows accounts.old) (keys_of supplies.now.entries) a k }
+    ensures behind { (a n : ℕ) → length supplies.now.entries ≤ n → kept (rows accounts.new) a n ≡ kept (rows accounts.old) a n }
+    ensures stays { (a n : ℕ) → is_some (kept (rows accounts.old) a n) ≡ true → is_some (kept (rows accounts.new) a n) ≡ true }
 {
-    let position = (posting.account, posting.collection);
+    let Some(number) = supplies.get_index_of(&posting.collection) else {
+        return;
+    };
+    let Some(amount) = kept(accounts, posting.account, number) else {
+        unreachable!()
+    };
     let paid = credits(postings, posting.account, &posting.collection);
     let taken = debits(postings, posting.account, &posting.collection);
-    let amount = amounts.get(&position).copied().unwrap_or(0);
-    let Ok(_) = amounts.insert(position, moved(amount, paid, taken)) else {
+    let Ok(()) = keep(
+        accounts,
+        posting.account,
+        number,
+        moved(amount, paid, taken),
+    ) else {
         unreachable!()
     };
 }
@@ -107,7 +127,7 @@ fn moved(amount: u64, paid: u128, taken: u128) -> u64
 }
 
 // Whether one of these is at the position of a posting.
-fn is_position_in(front: &[Posting], posting: &Posting) -> bool
+pub(crate) fn is_position_in(front: &[Posting], posting: &Posting) -> bool
     ensures { result ≡ list_any (λ p. same_position (posting.now.account, posting.now.collection) (p.account, p.collection)) front.now }
 {
     front.iter().any(|other| {

@@ -5,13 +5,16 @@
 #![tactic(auto)]
 
 mod carrying;
+mod keeping;
 pub mod laws;
 mod ledger;
 mod moved;
 mod naming;
+mod plan_fault;
 mod posting;
 mod staged;
 
-pub use ledger::{Ledger, LedgerFull};
+pub use ledger::{Ledger, LedgerFull, MAX_ENTRIES};
+pub use plan_fault::PlanFault;
 pub use posting::Posting;
 pub use staged::{DebitFault, MAX_POSTED, PostFault, Staged};

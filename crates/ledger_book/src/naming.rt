@@ -1,9 +1,8 @@
-//! Which collections get a name, and the naming of them.
+//! Which collections get a name, and the numbering of them.
 
-ghost use Rattle.std.specs.Prelude.{◌≡◌, ◌+◌, ◌≤◌, ◌++◌, length, not, OnOk};
+ghost use Rattle.std.specs.Prelude.{◌≡◌, ◌+◌, ◌≤◌, ◌++◌, length, take, not, OnOk};
 ghost use Rattle.std.specs.List.{prefix_len};
 ghost use Rattle.std.specs.Ordering.{is_lt};
-ghost use Rattle.std.specs.HashMap.{spare};
 ghost use Rattle.std.specs.Map.{keys_of};
 ghost use Rattle.collection_keys.specs.Collections.{Pairs};
 ghost use Rattle.collection_keys.specs.Comparing.{collection_cmp};
@@ -64,17 +63,20 @@ fn place_of(coming: &[Collection], collection: &Collection) -> usize
         .count()
 }
 
-// Gives each of these a name, in their order.
-pub(crate) fn name_all(supplies: &mut IndexMap<Collection, u64>, coming: &[Collection])
-    requires fresh { AreFresh (keys_of supplies.old.entries) coming.now }
-    requires room { length coming.now ≤ spare supplies.old }
+// Gives each of these a number, in their order, behind those that have one.
+pub(crate) fn number_all(
+    supplies: &mut IndexMap<Collection, u64>,
+    coming: &[Collection],
+) -> Result<(), NoMemory>
+    requires { AreFresh (keys_of supplies.old.entries) coming.now }
 
-    ensures names { keys_of supplies.new.entries ≡ keys_of supplies.old.entries ++ coming.now }
+    ensures front { take (length supplies.old.entries) supplies.new.entries ≡ supplies.old.entries }
+    ensures longer { length supplies.old.entries ≤ length supplies.new.entries }
     ensures same { (k : Pairs) → supply_in supplies.new.entries k ≡ supply_in supplies.old.entries k }
+    ensures ok { OnOk result (keys_of supplies.new.entries ≡ keys_of supplies.old.entries ++ coming.now) }
 {
     for collection in coming {
-        let Ok(_) = supplies.insert(*collection, 0) else {
-            unreachable!()
-        };
+        supplies.insert(*collection, 0)?;
     }
+    Ok(())
 }
