@@ -1,5 +1,5 @@
 pub mod Clock
 pub mod Command
-pub mod Keys
+pub mod Ranges
 pub mod Refusal
 pub mod Reply

@@ -1,25 +1,26 @@
-ghost use Rattle.std.specs.Prelude.{◌≡◌, IfOk};
-ghost use Rattle.command_words.specs.Keys.{is_condition, is_simple, is_yes_and_no};
-ghost use Rattle.std.specs.List.{list_all};
-ghost use Rattle.command_words.specs.Command.{is_sets};
+use condition_sets::{AccountId, Bits, ConditionId, EventId, Fills, OrderId, Pairs};
+use order_rules::Side;
 
-use condition_sets::{
-    AccountId, Bits, ConditionId, MAX_AMOUNT, MAX_CONDITION, MAX_SLOTS, MIN_SLOTS, NoMemory, Pairs,
-};
-use std::alloc::Global;
-
-/// The greatest number of a question.
-pub const MAX_QUESTION: u64 = 1_000_000_000_000_000;
-
-/// The most sets that a command may name.
-pub const MAX_SETS: usize = 32;
-
-/// What a client asks, with the members of its request.
+/// What a client asks, with the members of its request: 17 commands that become acts of the history where they are
+/// accepted, `cross`, which becomes as many acts as it has turns, and three readings.
+///
+/// A key is a list of pairs, each of a condition and the bits of one of its index sets, with the conditions in
+/// ascending order. (Gnosis Conditional Tokens, developer documentation; Polymarket CTF Exchange and NegRiskAdapter.)
 #[derive(Debug, Drop)]
 pub enum Command {
     /// Pays `amount` collateral units into the vault, as cash of the account `to`.
     Deposit {
         to: AccountId,
+        amount: u64,
+    },
+    /// Pays `amount` of the caller's cash out of the vault.
+    Withdraw {
+        amount: u64,
+    },
+    /// Moves `amount` of the position of `key` from the caller to the account `to`.
+    Move {
+        to: AccountId,
+        key: Pairs,
         amount: u64,
     },
     /// Prepares the condition of an oracle, a question and a number of outcome slots.
@@ -28,6 +29,13 @@ pub enum Command {
         question: u64,
         slots: u8,
     },
+    /// Makes an event of so many questions, of which one at most comes out YES; `fee`, in basis points, is what a
+    /// conversion pays.
+    Event {
+        oracle: AccountId,
+        questions: u8,
+        fee: u16,
+    },
     /// Takes `amount` of the parent position from the caller, and pays as much of each of the condition's sets.
     Split {
         parent: Pairs,
@@ -35,157 +43,99 @@ pub enum Command {
         sets: Bits,
         amount: u64,
     },
-    /// Asks what the account `of` holds of a collection: pairs of a condition and the bits of an index set.
+    /// Takes `amount` of each of the condition's sets from the caller, and pays as much of the parent position.
+    Merge {
+        parent: Pairs,
+        condition: ConditionId,
+        sets: Bits,
+        amount: u64,
+    },
+    /// Reports how the condition came out: a numerator for each slot.
+    Report {
+        condition: ConditionId,
+        payouts: Bits,
+    },
+    /// Answers one question of an event, counted from 0.
+    Answer {
+        event: EventId,
+        question: u8,
+        yes: bool,
+    },
+    /// Pays out all that the caller holds of each of the sets of a reported condition.
+    Redeem {
+        parent: Pairs,
+        condition: ConditionId,
+        sets: Bits,
+    },
+    /// Converts `amount` of NO of each question in a bit set into YES of the others, and cash.
+    Convert {
+        event: EventId,
+        set: u32,
+        amount: u64,
+    },
+    /// Opens a market for orders on a condition.
+    Market {
+        condition: ConditionId,
+    },
+    /// Places an order in a market for the token of a set, 1 for YES and 2 for NO. `making` is what the maker pays,
+    /// `taking` what it wants for it; `expires` is a moment, or 0 for never, and `fee` is in basis points.
+    Place {
+        market: ConditionId,
+        set: u8,
+        side: Side,
+        making: u64,
+        taking: u64,
+        expires: u64,
+        nonce: u64,
+        fee: u16,
+    },
+    /// Cancels an order of the caller.
+    Cancel {
+        order: OrderId,
+    },
+    /// Raises the caller's nonce by one, which makes its older orders void.
+    Bump,
+    /// Matches a taker's order, by a fill, with makers' orders, each by its own.
+    Match {
+        taker: OrderId,
+        fill: u64,
+        makers: Fills,
+    },
+    /// Closes an order that can't be filled any more.
+    Lapse {
+        order: OrderId,
+    },
+    /// Matches what crosses in a market, turn by turn.
+    Cross {
+        market: ConditionId,
+    },
+    /// Asks what the account `of` holds of the position of a key.
     Balance {
         of: AccountId,
         key: Pairs,
+    },
+    /// Asks how far an order is filled, and whether it is open.
+    Order {
+        order: OrderId,
     },
     /// Asks what the vault holds.
     Vault,
 }
 
 impl Command {
-    ghost use Rattle.command_words.specs.Command.{makes_act, in_ranges, is_built};
+    ghost use Rattle.std.specs.Prelude.{◌≡◌};
+    ghost use Rattle.command_words.specs.Command.{makes_act};
 
-    /// Whether the command becomes an act of the history where it is accepted; the others are readings.
+    /// Whether the command becomes an act of the history where it is accepted. `cross` doesn't, though its turns do.
     pub fn makes_act(&self) -> bool
         ensures { result ≡ makes_act self.now }
     {
         match self {
-            Command::Deposit { .. } => true,
-            Command::Prepare { .. } => true,
-            Command::Split { .. } => true,
+            Command::Cross { .. } => false,
             Command::Balance { .. } => false,
+            Command::Order { .. } => false,
             Command::Vault => false,
+            _ => true,
         }
-    }
-
-    /// Whether each member lies in its range: an amount from 1 to [`MAX_AMOUNT`], a question up to
-    /// [`MAX_QUESTION`], slots from [`MIN_SLOTS`] to [`MAX_SLOTS`], a condition up to [`MAX_CONDITION`], 1 to
-    /// [`MAX_SETS`] sets.
-    pub fn in_ranges(&self) -> bool
-        ensures { result ≡ in_ranges self.now }
-    {
-        match self {
-            Command::Deposit { to, amount } => {
-                // Any account is in its range, as its type says.
-                let _number = to.get();
-                *amount >= 1 && *amount <= MAX_AMOUNT
-            }
-            Command::Prepare {
-                oracle,
-                question,
-                slots,
-            } => {
-                let _number = oracle.get();
-                *question <= MAX_QUESTION && *slots >= MIN_SLOTS && *slots <= MAX_SLOTS
-            }
-            Command::Split {
-                parent,
-                condition,
-                sets,
-                amount,
-            } => {
-                // Any condition's number is in its range, as its type says.
-                let _number = condition.get();
-                names_conditions(parent.as_slice())
-                    && is_sets(sets.as_slice())
-                    && *amount >= 1
-                    && *amount <= MAX_AMOUNT
-            }
-            Command::Balance { of, key } => {
-                let _number = of.get();
-                names_conditions(key.as_slice())
-            }
-            Command::Vault => true,
-        }
-    }
-
-    /// Whether the command has a form that the exchange carries out so far: conditions of two slots, full splits of
-    /// cash, and keys of at most one condition.
-    pub fn is_built(&self) -> bool
-        ensures { result ≡ is_built self.now }
-    {
-        match self {
-            Command::Deposit { .. } => true,
-            Command::Prepare { slots, .. } => *slots == 2,
-            Command::Split { parent, sets, .. } => {
-                parent.as_slice().is_empty() && is_yes_and_no(sets.as_slice())
-            }
-            Command::Balance { key, .. } => is_simple(key.as_slice()),
-            Command::Vault => true,
-        }
-    }
-
-    /// An equal command.
-    pub fn copy(&self, alloc: Global) -> Result<Command, NoMemory>
-        ensures { IfOk result (λ copy. copy ≡ self.now) }
-    {
-        match self {
-            Command::Deposit { to, amount } => Ok(Command::Deposit {
-                to: *to,
-                amount: *amount,
-            }),
-            Command::Prepare {
-                oracle,
-                question,
-                slots,
-            } => Ok(Command::Prepare {
-                oracle: *oracle,
-                question: *question,
-                slots: *slots,
-            }),
-            Command::Split {
-                parent,
-                condition,
-                sets,
-                amount,
-            } => Ok(Command::Split {
-                parent: parent.copy(alloc)?,
-                condition: *condition,
-                sets: sets.copy(alloc)?,
-                amount: *amount,
-            }),
-            Command::Balance { of, key } => Ok(Command::Balance {
-                of: *of,
-                key: key.copy(alloc)?,
-            }),
-            Command::Vault => Ok(Command::Vault),
-        }
-    }
-}
-
-/// Whether each pair of a key names a number that a condition may have.
-fn names_conditions(key: &[(u16, u32)]) -> bool
-    ensures { result ≡ list_all (λ p. is_condition p.0) key.now }
-{
-    key.iter().all(|pair| pair.0 <= MAX_CONDITION)
-}
-
-/// Whether a key is empty, or one set of one condition of two slots.
-fn is_simple(key: &[(u16, u32)]) -> bool
-    ensures { result ≡ is_simple key.now }
-{
-    match key {
-        [] => true,
-        [pair] => pair.1 == 1 || pair.1 == 2,
-        _ => false,
-    }
-}
-
-/// Whether a list has as many sets as a command may name.
-fn is_sets(sets: &[u32]) -> bool
-    ensures { result ≡ is_sets sets.now }
-{
-    !sets.is_empty() && sets.len() <= MAX_SETS
-}
-
-/// Whether the sets are those of a full split of a condition of two slots.
-fn is_yes_and_no(sets: &[u32]) -> bool
-    ensures { result ≡ is_yes_and_no sets.now }
-{
-    match sets {
-        [yes, no] => *yes == 1 && *no == 2,
-        _ => false,
     }
 }
