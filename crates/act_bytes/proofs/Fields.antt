@@ -1,5 +1,6 @@
 -- A field that is read is the field that was written, and what was written is read again.
 use Rattle.std.proofs.Common.{◌≡◌, ℕ, zero, suc, ◌+◌, ◌^◌, ◌<◌, ◌≤◌, Bool, true, false, cond, ltb, List, [], ◌∷◌, ◌++◌, length, get_or, take, drop, Option, Some, None, refl, sym, ap, subst, ◌∙◌, append_assoc, arith, inl, inr}
+use Rattle.std.specs.Prelude.{⊤}
 use Rattle.std.specs.Int.{Width, w16, w32, w64, byte_len, from_be_bytes, to_be_bytes}
 use Rattle.std.specs.List.{flat_map, AllByRecursion}
 use Rattle.std.proofs.lemmas.Bool.{cases_lt, ltb-false, le-ltb}
@@ -7,7 +8,7 @@ use Rattle.std.proofs.lemmas.Option.{cond_some}
 use Rattle.std.proofs.lemmas.List.{take_at, drop_at, take-append-drop, length-append, length-take, get_or-drop, get_or-take, get_or_past}
 use Rattle.std.proofs.lemmas.List.Concat.{flat_map-cons}
 use Rattle.std.proofs.lemmas.Nat.{be_bytes_2, be_bytes_4, be_bytes_8, from_be_bytes-to_be_bytes_2, from_be_bytes-to_be_bytes_4, from_be_bytes-to_be_bytes_8}
-use Rattle.act_bytes.specs.Reading.{◌>>=◌, Field, first_byte, next_number, ◌and◌, made, passed, checked, next_items, counted}
+use Rattle.act_bytes.specs.Reading.{◌>>=◌, Field, first_byte, next_number, ◌and◌, made, passed, checked, told, nothing, next_items, counted}
 
 -- each is a byte
 abbrev pub IsBytes : List ℕ → Type 0
@@ -154,6 +155,29 @@ checked-field {A = A} test {field = field} {bytes-of = bytes-of} {Fits = Fits} l
       subst (λ (y : A × List ℕ). Takes bytes (bytes-of y.0) y.1 × (Fits y.0 × (test y.0 ≡ true))) is.1 (t.0, (t.1, is.0));
   again = λ x rest fits. let is = fits.1 in rw (law.again x rest fits.0, is) refl;
 }
+
+-- words and the numbers that stand for them
+pub record IsWord {A B : Type 0} (tell : A → Option B) (back : B → A) (Fits : A → Type 0) : Type 0 where
+  pub right : (x : A) (y : B) → tell x ≡ Some y → back y ≡ x
+  pub left : (y : B) → tell (back y) ≡ Some y
+  pub room : (y : B) → Fits (back y)
+
+pub told-field : {A B : Type 0} (tell : A → Option B) (back : B → A) {field : Field A} {bytes-of : A → List ℕ} {Fits : A → Type 0} → IsWord tell back Fits → IsField field bytes-of Fits → IsField (told tell field) (λ y. bytes-of (back y)) (λ y. ⊤)
+told-field {B = B} tell back {field = field} {bytes-of = bytes-of} word law = record {
+  takes = λ bytes rest y fits e.
+      let a = bind_some (field bytes) (λ p. tell p.0 >>= λ z. Some (z, p.1)) (y, rest) e in
+      let b = bind_some (tell a.0.0) (λ z. Some (z, a.0.1)) (y, rest) a.2 in
+      let t = law.takes bytes a.0.1 a.0.0 fits a.1 in
+      let text = ap bytes-of (sym (word.right a.0.0 b.0 b.1)) in
+      subst (λ (z : B × List ℕ). Takes bytes (bytes-of (back z.0)) z.1 × ⊤) (some_is (b.0, a.0.1) (y, rest) b.2) (subst (λ (front : List ℕ). Takes bytes front a.0.1) text t.0, tt);
+  again = λ y rest fits. let is = word.left y in rw (law.again (back y) rest (word.room y), is) refl;
+}
+
+nothing-takes : (bytes rest : List ℕ) (x : ⊤) → IsBytes bytes → nothing bytes ≡ Some (x, rest) → Takes bytes [] rest × ⊤
+nothing-takes bytes rest x fits e = (subst (λ (y : ⊤ × List ℕ). Takes bytes [] y.1) (some_is (tt, bytes) (x, rest) e) (record { parts = refl; rest_fits = fits }), tt)
+
+pub nothing-field : IsField nothing (λ x. []) (λ x. ⊤)
+nothing-field = record { takes = nothing-takes; again = λ x rest fits. refl }
 
 -- so many of a kind
 items-take : {A : Type 0} {item : Field A} {bytes-of : A → List ℕ} {Fits : A → Type 0} → IsField item bytes-of Fits → (n : ℕ) (bytes rest : List ℕ) (xs : List A) → IsBytes bytes → next_items item n bytes ≡ Some (xs, rest)

@@ -1,8 +1,10 @@
 -- Bytes put at a place of a piece, one behind the other.
-use Rattle.std.proofs.Common.{◌≡◌, ℕ, ◌+◌, ◌*◌, ◌≤◌, ◌<◌, List, [], ◌∷◌, ◌++◌, length, take, refl, sym, ap, ◌∙◌, append_assoc, arith}
+use Rattle.std.proofs.Common.{◌≡◌, ℕ, ◌+◌, ◌*◌, ◌≤◌, ◌<◌, List, [], ◌∷◌, ◌++◌, length, take, refl, sym, ap, ◌∙◌, append_assoc, append-nil, add-one, get_or, arith}
 use Rattle.std.specs.List.{flat_map}
 use Rattle.std.proofs.lemmas.List.{take_at, take-take, length-append, length-take-le}
 use Rattle.std.proofs.lemmas.List.Concat.{flat_map-cons}
+use Rattle.std.proofs.lemmas.Grind.{flat_map-append}
+use Rattle.std.proofs.Math.Seq.{take-suc}
 use Rattle.std.proofs.lemmas.Slice.{take-put_mid}
 use Rattle.std.proofs.Math.Nat.{mul-le-mul_left}
 use borrow.Rule.Slice.PartMut.{put_mid}
@@ -32,10 +34,22 @@ puts-then old x now y new at end next one two = record {
   place = omega (arith, one.place, two.place, length-append x y);
 }
 
+-- the same, of what two calls wrote
+pub then-puts : {old x now y new : List ℕ} {at end next : ℕ} → Puts old at x now end → Puts now end y new next → Puts old at (x ++ y) new next
+then-puts {old = old} {x = x} {now = now} {y = y} {new = new} {at = at} {end = end} {next = next} one two = puts-then old x now y new at end next one two
+
 -- items of a length
-length-items : {A : Type 0} (f : A → List ℕ) (n : ℕ) → ((x : A) → length (f x) ≡ n) → (items : List A) → length (flat_map f items) ≡ n * length items
+pub length-items : {A : Type 0} (f : A → List ℕ) (n : ℕ) → ((x : A) → length (f x) ≡ n) → (items : List A) → length (flat_map f items) ≡ n * length items
 length-items f n each [] = omega arith
 length-items f n each (x ∷ xs) = omega (arith, ap length (flat_map-cons f x xs), length-append (f x) (flat_map f xs), each x, length-items f n each xs)
+
+-- one more item
+pub one-more : {A : Type 0} (f : A → List ℕ) (items : List A) (i : ℕ) (x : A) → i < length items → x ≡ get_or items i x → flat_map f (take i items) ++ f x ≡ flat_map f (take (i + 1) items)
+one-more f items i x less is =
+    let last : flat_map f (get_or items i x ∷ []) ≡ f (get_or items i x) = flat_map-cons f (get_or items i x) [] ∙ append-nil (f (get_or items i x)) in
+    let front = flat_map f (take i items) in
+    let whole = ap (flat_map f) (take-suc items i x less) ∙ (flat_map-append f (take i items) (get_or items i x ∷ []) ∙ ap (λ (y : List ℕ). front ++ y) last) in
+    ap (λ y. front ++ f y) is ∙ rw add-one (sym whole)
 
 -- a loop that has put some of the items has room for one more
 pub room-left : {A : Type 0} (f : A → List ℕ) (n most : ℕ) → ((x : A) → length (f x) ≡ n) → (items : List A) (i at end : ℕ) → i < length items

@@ -4,14 +4,15 @@ use Rattle.std.specs.Int.{w16, w64, to_be_bytes}
 use Rattle.std.proofs.lemmas.Bool.{and_parts, eqb-true}
 use Rattle.std.proofs.lemmas.Option.{cond_some}
 use Rattle.std.proofs.lemmas.List.{nil_from_length}
-use Rattle.command_words.specs.Command.{in_ranges, is_built}
+use Rattle.command_words.specs.Command.{makes_act, in_ranges, is_act_form, may_be_act}
 use Rattle.command_words.specs.declared.act.Act.{Act}
 use Rattle.command_words.specs.declared.command.Command.{Command}
-use Rattle.command_words.specs.declared.command.Command.TheVariants.{Deposit, Prepare, Split, Balance, Vault}
+use Rattle.command_words.specs.declared.command.Command.TheVariants.{Deposit, Withdraw, Move, Prepare, Event, Split, Merge, Report, Answer, Redeem, Convert, Market, Place, Cancel, Bump, Match, Lapse, Cross, Balance, Order, Vault}
 use Rattle.act_bytes.specs.Spelling.{kind_of, body_bytes, spelling, Spells}
 use Rattle.act_bytes.specs.Reading.{◌>>=◌, passed, next_head, next_body, is_whole, act_in}
 use Rattle.act_bytes.proofs.Fields.{IsBytes, bind_some, some_is, IsField, byte-field, u16-field, u64-field, and-field}
-use Rattle.act_bytes.proofs.Bodies.{has-room, body-takes, body-again}
+use Rattle.act_bytes.proofs.Bodies.{body-takes, body-again}
+use Rattle.act_bytes.proofs.Rooms.{has-room}
 
 -- the bytes of a moment, an account and the number of a kind
 abbrev head_bytes : (ℕ × ℕ) × ℕ → List ℕ
@@ -22,9 +23,25 @@ head-field = and-field (and-field u64-field u16-field) byte-field
 
 kind-room : (command : Command) → kind_of command < 256
 kind-room (Deposit to amount) = omega arith
+kind-room (Withdraw amount) = omega arith
+kind-room (Move to key amount) = omega arith
 kind-room (Prepare oracle question slots) = omega arith
+kind-room (Event oracle questions fee) = omega arith
 kind-room (Split parent condition sets amount) = omega arith
+kind-room (Merge parent condition sets amount) = omega arith
+kind-room (Report condition payouts) = omega arith
+kind-room (Answer event question answer) = omega arith
+kind-room (Redeem parent condition sets) = omega arith
+kind-room (Convert event set amount) = omega arith
+kind-room (Market condition) = omega arith
+kind-room (Place market set side making taking expires nonce fee) = omega arith
+kind-room (Cancel order) = omega arith
+kind-room Bump = omega arith
+kind-room (Match taker fill makers) = omega arith
+kind-room (Lapse order) = omega arith
+kind-room (Cross market) = omega arith
 kind-room (Balance holder key) = omega arith
+kind-room (Order order) = omega arith
 kind-room Vault = omega arith
 
 abbrev act_of : (ℕ × ℕ) × ℕ → Command × List ℕ → Act
@@ -37,8 +54,7 @@ is-spelled bytes act fits e =
     let b = bind_some (next_body a.0.0.1 a.0.1) (λ body. passed is_whole body >>= λ whole. Some (act_of a.0.0 whole)) act a.2 in
     let c = bind_some (passed is_whole b.0) (λ whole. Some (act_of a.0.0 whole)) act b.2 in
     let yes = cond_some (is_whole b.0) b.0 c.0 c.1 in
-    let tests = and_parts (length b.0.1 == 0) (in_ranges b.0.0 && is_built b.0.0) yes.0 in
-    let both = and_parts (in_ranges b.0.0) (is_built b.0.0) tests.1 in
+    let tests = and_parts (length b.0.1 == 0) (may_be_act b.0.0) yes.0 in
     let head = head-field.takes bytes a.0.1 a.0.0 fits a.1 in
     let body = body-takes a.0.0.1 a.0.1 b.0.1 b.0.0 head.0.rest_fits b.1 in
     let nothing : b.0.1 ≡ [] = nil_from_length b.0.1 (eqb-true (length b.0.1) 0 tests.0) in
@@ -49,9 +65,7 @@ is-spelled bytes act fits e =
     subst (λ (made : Act). Spells bytes made) (ap (act_of a.0.0) yes.1 ∙ some_is (act_of a.0.0 c.0) act c.2) (record {
       moment = head.1.0.0;
       account = head.1.0.1;
-      makes_act = body.act;
-      in_ranges = both.0;
-      is_built = both.1;
+      may_be_act = tests.1;
       bytes = whole;
     })
 
@@ -64,10 +78,9 @@ is-read bytes act spells =
     let regrouped : bytes ≡ head_bytes head ++ (body ++ []) =
     spells.bytes ∙ (sym (append_assoc front (kind_of act.command ∷ []) body) ∙ ap (λ (r : List ℕ). head_bytes head ++ r) (sym (append-nil body))) in
     let first = head-field.again head (body ++ []) ((spells.moment, spells.account), kind-room act.command) in
-    let second = body-again act.command [] spells.makes_act (has-room act.command spells.in_ranges spells.is_built) in
-    let ranges = spells.in_ranges in
-    let built = spells.is_built in
-    ap act_in regrouped ∙ rw (first, second, ranges, built) refl
+    let second = body-again act.command [] (and_parts (makes_act act.command) (in_ranges act.command && is_act_form act.command) spells.may_be_act).0 (has-room act.command spells.may_be_act) in
+    let may = spells.may_be_act in
+    ap act_in regrouped ∙ rw (first, second, may) refl
 
 pub is-none : (bytes : List ℕ) → act_in bytes ≡ None → (act : Act) → Spells bytes act → ⊥
 is-none bytes none act spells = let read = is-read bytes act spells in cc

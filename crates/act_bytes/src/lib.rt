@@ -4,8 +4,15 @@
 //! none. The [`laws`] say that an act has one spelling, and that bytes spell at most one act.
 #![tactic(auto)]
 
+mod condition_bodies;
 mod fault;
+mod fund_bodies;
 pub mod laws;
+mod lists;
+mod named;
+mod numbers;
+mod order_bodies;
+mod pieces;
 mod reading;
 mod writing;
 

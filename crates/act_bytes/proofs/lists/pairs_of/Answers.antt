@@ -1,7 +1,7 @@
 use Rattle.std.proofs.lemmas.Result.{err_from_is_err_and}
 use Rattle.act_bytes.specs.Reading.{next_pair, next_items}
 use Rattle.act_bytes.proofs.Loop.{goes_on, ends, is_done}
-use Rattle.act_bytes.proofs.reading.pairs_of.Goals as goal
+use Rattle.act_bytes.proofs.lists.pairs_of.Goals as goal
 
 pub returns-in_err-pair : goal.returns-in_err-pair
 returns-in_err-pair c =

@@ -3,7 +3,7 @@ use Rattle.byteorder.specs.Endian.{big_bytes}
 use Rattle.act_bytes.specs.Spelling.{sets_bytes}
 use Rattle.act_bytes.specs.declared.writing.TheConstants.{MAX_ACT}
 use Rattle.act_bytes.proofs.Putting.{room-left}
-use Rattle.act_bytes.proofs.writing.put_sets.Goals as goal
+use Rattle.act_bytes.proofs.pieces.put_sets.Goals as goal
 
 pub put_u32-end-requires : goal.put_u32-end-requires
 unfolding sets_bytes

@@ -2,7 +2,7 @@ use Rattle.std.proofs.Common.{◌+◌, ◌≤◌, refl, arith}
 use Rattle.act_bytes.specs.Spelling.{pair_bytes, key_bytes}
 use Rattle.act_bytes.specs.declared.writing.TheConstants.{MAX_ACT}
 use Rattle.act_bytes.proofs.Putting.{room-left}
-use Rattle.act_bytes.proofs.writing.put_key.Goals as goal
+use Rattle.act_bytes.proofs.pieces.put_key.Goals as goal
 
 pub put_u16-end-requires : goal.put_u16-end-requires
 unfolding key_bytes

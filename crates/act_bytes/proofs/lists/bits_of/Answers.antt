@@ -2,7 +2,7 @@ use Rattle.std.proofs.lemmas.Result.{err_from_is_err_and}
 use Rattle.std.specs.Int.{w32}
 use Rattle.act_bytes.specs.Reading.{next_number, next_items}
 use Rattle.act_bytes.proofs.Loop.{goes_on, ends, is_done}
-use Rattle.act_bytes.proofs.reading.bits_of.Goals as goal
+use Rattle.act_bytes.proofs.lists.bits_of.Goals as goal
 
 pub returns-in_err-set : goal.returns-in_err-set
 returns-in_err-set c =

@@ -1,0 +1,16 @@
+use Rattle.std.proofs.lemmas.Result.{err_from_is_err_and}
+use Rattle.act_bytes.specs.Reading.{next_fill, next_items}
+use Rattle.act_bytes.proofs.Loop.{goes_on, ends, is_done}
+use Rattle.act_bytes.proofs.lists.makers_of.Goals as goal
+
+pub returns-in_err-fill : goal.returns-in_err-fill
+returns-in_err-fill c =
+    let p = err_from_is_err_and c.from_residual.result c.from_residual.ensures.1 in
+    rw (p.1, p.2) (ends next_fill c.in_err-fill.field-0.0 c.loop.makers.items c.args.count c.loop.counter c.loop.rest.now (next_items next_fill c.args.count c.args.bytes.now) c.loop-test.true c.in_err-fill.ensures c.loop.invariant)
+
+pub loop-preserved : goal.loop-preserved
+loop-preserved c =
+    rw c.in_ok-push.ensures.items (goes_on next_fill c.loop.makers.items c.args.count c.loop.counter c.loop.rest.now c.in_ok-fill.fill c.in_ok-fill.after.now (next_items next_fill c.args.count c.args.bytes.now) c.loop-test.true c.in_ok-fill.ensures c.loop.invariant)
+
+pub returns : goal.returns
+returns c = is_done next_fill c.loop.makers.items c.args.count c.loop.counter c.loop.rest.now (next_items next_fill c.args.count c.args.bytes.now) c.loop-test.false c.loop.invariant
