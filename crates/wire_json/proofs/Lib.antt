@@ -1,0 +1,5 @@
+mod Faults
+pub mod Listing
+mod Lists
+mod Requests
+mod Rows
