@@ -1,26 +1,28 @@
 -- A supply is what all accounts hold together.
 use Rattle.std.proofs.Common.{◌≡◌, ◌==◌, ℕ, zero, suc, ◌+◌, ◌-◌, ◌^◌, ◌<◌, ◌≤◌, Bool, true, false, cond, List, [], ◌∷◌, ◌++◌, length, take, refl, sym, ap, subst, ◌∙◌, arith, inl, inr}
 use Rattle.std.specs.Prelude.{All, ◌&&◌, fold, map, slice_get, Some, sum_by}
-use Rattle.std.proofs.lemmas.Bool.{cases_order, cases_Bool, cond-true, cond-false, eqb-true}
+use Rattle.std.proofs.lemmas.Bool.{cases_order, cond-true, cond-false}
 use Rattle.std.proofs.lemmas.Bool.Decides.{nat_tests}
 use Rattle.std.proofs.lemmas.List.{take_all}
 use Rattle.std.proofs.lemmas.List.Elements.{All-append, All-cons, All-head, All-nil, All-tail}
 use Rattle.std.proofs.lemmas.List.Sums.{sum_by-cons}
-use Rattle.command_words.specs.Command.{is_account, is_amount, in_ranges}
-use Rattle.command_words.specs.Keys.{Collection, root, set_of, same_collection}
+use Rattle.collection_keys.specs.Collections.{Pairs, root}
+use Rattle.command_words.proofs.Acts.{act-ranges}
+use Rattle.command_words.specs.Command.{in_ranges, may_be_act}
+use Rattle.command_words.specs.Ranges.{is_account, is_amount}
 use Rattle.command_words.specs.declared.act.Act.{Act}
 use Rattle.command_words.specs.declared.command.Command.{Command}
-use Rattle.command_words.specs.declared.command.Command.TheVariants.{Deposit, Prepare, Split, Balance, Vault}
-use Rattle.settle_core.specs.Askable.{IsAskable}
-use Rattle.settle_core.specs.Book.{Book, blank, entered, credit, debit, postings, postings_of}
+use Rattle.command_words.specs.declared.command.Command.TheVariants.{Deposit, Split, Merge}
+use Rattle.ledger_book.specs.Postings.{credit, debit, credits, debits, paid_to, taken_from, paid_to_account, taken_from_account}
+use Rattle.ledger_book.specs.declared.posting.Posting.{Posting}
+use Rattle.split_merge.specs.Splitting.{parts_of}
+use Rattle.settle_core.specs.Book.{Book, blank, entered, postings, postings_of}
 use Rattle.settle_core.specs.Bounds.{Bounds}
+use Rattle.settle_core.specs.Keys.{whole_in}
 use Rattle.settle_core.specs.Legal.{IsAccepted, IsLegal}
-use Rattle.settle_core.specs.Postings.{paid_to, taken_from, paid_to_account, taken_from_account, credits, debits, balance, supply, over_accounts, held_by_all}
-use Rattle.settle_core.specs.Verdict.{question_of}
-use Rattle.settle_core.specs.declared.ledger_book.posting.Posting.{Posting}
-use Rattle.settle_core.proofs.Balances.{same-equal}
-use Rattle.settle_core.proofs.Histories.{legal-askable, sum-more}
-use Rattle.settle_core.proofs.Verdicts.{accepted-split}
+use Rattle.settle_core.specs.Postings.{supply, over_accounts, held_by_all}
+use Rattle.settle_core.proofs.Funded.{posts-funded}
+use Rattle.settle_core.proofs.Histories.{legal-acts, sum-more}
 
 -- ---- sums over accounts
 
@@ -82,72 +84,51 @@ AreOfAccounts ps = All (λ p. p.account < 2 ^ 16) ps
 account-within : (n : ℕ) → is_account n ≡ true → n < 2 ^ 16
 account-within n is = grind (arith, nat_tests, is)
 
-sets-of-account : (a condition : ℕ) (sets : List ℕ) (amount : ℕ) → a < 2 ^ 16 → AreOfAccounts (map (λ set. credit a (set_of condition set) amount) sets)
-sets-of-account a condition [] amount fits = All-nil (λ (p : Posting). p.account < 2 ^ 16)
-sets-of-account a condition (set ∷ sets) amount fits = All-cons (λ (p : Posting). p.account < 2 ^ 16) (credit a (set_of condition set) amount) _ fits (sets-of-account a condition sets amount fits)
+none-of : AreOfAccounts []
+none-of = All-nil (λ (p : Posting). p.account < 2 ^ 16)
+
+one-of : (p : Posting) (ps : List Posting) → p.account < 2 ^ 16 → AreOfAccounts ps → AreOfAccounts (p ∷ ps)
+one-of p ps fits others = All-cons (λ (q : Posting). q.account < 2 ^ 16) p ps fits others
+
+credits-of : (a amount : ℕ) (parts : List Pairs) → a < 2 ^ 16 → AreOfAccounts (map (λ k. credit a k amount) parts)
+credits-of a amount [] fits = none-of
+credits-of a amount (k ∷ ks) fits = one-of (credit a k amount) _ fits (credits-of a amount ks fits)
+
+debits-of : (a amount : ℕ) (parts : List Pairs) (behind : List Posting) → a < 2 ^ 16 → AreOfAccounts behind → AreOfAccounts (map (λ k. debit a k amount) parts ++ behind)
+debits-of a amount [] behind fits others = others
+debits-of a amount (k ∷ ks) behind fits others = one-of (debit a k amount) _ fits (debits-of a amount ks behind fits others)
 
 first_true : (a b : Bool) → (a && b) ≡ true → a ≡ true
 first_true true b both = refl
 first_true false b both = cc
 
-posts-of-account : (a : ℕ) (command : Command) → a < 2 ^ 16 → in_ranges command ≡ true → AreOfAccounts (postings_of a command)
-posts-of-account a (Deposit to amount) fits ranges = All-cons (λ (p : Posting). p.account < 2 ^ 16) (credit to root amount) [] (account-within to (first_true (is_account to) (is_amount amount) ranges)) (All-nil (λ (p : Posting). p.account < 2 ^ 16))
-posts-of-account a (Prepare oracle question slots) fits ranges = All-nil (λ (p : Posting). p.account < 2 ^ 16)
-posts-of-account a (Split parent condition sets amount) fits ranges = All-cons (λ (p : Posting). p.account < 2 ^ 16) (debit a root amount) _ fits (sets-of-account a condition sets amount fits)
-posts-of-account a (Balance holder key) fits ranges = All-nil (λ (p : Posting). p.account < 2 ^ 16)
-posts-of-account a Vault fits ranges = All-nil (λ (p : Posting). p.account < 2 ^ 16)
+posts-of-account : (b : Book) (a : ℕ) (command : Command) → a < 2 ^ 16 → in_ranges command ≡ true → AreOfAccounts (postings_of b a command)
+posts-of-account b a (Deposit to amount) fits ranges = one-of (credit to root amount) [] (account-within to (first_true (is_account to) (is_amount amount) ranges)) none-of
+posts-of-account b a (Split parent condition sets amount) fits ranges =
+    one-of (debit a (whole_in b.conditions parent condition sets) amount) _ fits (credits-of a amount (parts_of parent condition sets) fits)
+posts-of-account b a (Merge parent condition sets amount) fits ranges =
+    debits-of a amount (parts_of parent condition sets) _ fits (one-of (credit a (whole_in b.conditions parent condition sets) amount) [] fits none-of)
+posts-of-account b a command fits ranges = none-of
 
-all-of-accounts : (acts : List Act) (b : Book) → All IsAskable acts → All (λ act. is_account act.account ≡ true) acts → AreOfAccounts b.postings → AreOfAccounts (fold entered b acts).postings
+abbrev MayBeActs : List Act → Type 0
+MayBeActs acts = All (λ act. may_be_act act.command ≡ true) acts
+
+all-of-accounts : (acts : List Act) (b : Book) → MayBeActs acts → All (λ act. is_account act.account ≡ true) acts → AreOfAccounts b.postings → AreOfAccounts (fold entered b acts).postings
 all-of-accounts [] b askable fits so_far = so_far
 all-of-accounts (act ∷ acts) b askable fits so_far =
     let here = account-within act.account (All-head (λ (x : Act). is_account x.account ≡ true) act acts fits) in
-    let posts = posts-of-account act.account act.command here (All-head IsAskable act acts askable).in_ranges in
-    all-of-accounts acts (entered b act) (All-tail IsAskable act acts askable) (All-tail (λ (x : Act). is_account x.account ≡ true) act acts fits)
-    (All-append (λ (p : Posting). p.account < 2 ^ 16) b.postings (postings_of act.account act.command) so_far posts)
+    let posts = posts-of-account b act.account act.command here (act-ranges act.command (All-head (λ (x : Act). may_be_act x.command ≡ true) act acts askable)) in
+    all-of-accounts acts (entered b act) (All-tail (λ (x : Act). may_be_act x.command ≡ true) act acts askable) (All-tail (λ (x : Act). is_account x.account ≡ true) act acts fits)
+    (All-append (λ (p : Posting). p.account < 2 ^ 16) b.postings (postings_of b act.account act.command) so_far posts)
 
 -- ---- no position of a legal history falls below 0
 
 abbrev IsCovered : List Act → Type 0
-IsCovered history = (a : ℕ) (k : Collection) → debits (postings history) a k ≤ credits (postings history) a k
-
-nothing : (c d : Bool) (x : ℕ) → x ≡ 0 → cond c (cond d x 0) 0 ≡ 0
-nothing true true x none = none
-nothing true false x none = refl
-nothing false d x none = refl
-
-sets-take : (a : ℕ) (k : Collection) (b condition : ℕ) (sets : List ℕ) (amount : ℕ) → debits (map (λ set. credit b (set_of condition set) amount) sets) a k ≡ 0
-sets-take a k b condition [] amount = refl
-sets-take a k b condition (set ∷ sets) amount =
-    omega (arith, sets-take a k b condition sets amount, sum_by-cons (taken_from_account a k) (credit b (set_of condition set) amount) (map (λ s. credit b (set_of condition s) amount) sets), nothing (b == a) (same_collection (set_of condition set) k) 0 refl)
-
-cash-takes : (history : List Act) (account a : ℕ) (k : Collection) (amount : ℕ) → amount ≤ balance history account root → cond (account == a) (cond (same_collection root k) amount 0) 0 ≤ balance history a k
-cash-takes history account a k amount enough =
-    elim (cases_Bool (account == a)) [
-      | inl own ↦ elim (cases_Bool (same_collection root k)) [
-        | inl cash ↦
-            let here : amount ≤ balance history a k = subst (λ (j : Collection). amount ≤ balance history a j) (same-equal root k cash) (subst (λ (b : ℕ). amount ≤ balance history b root) (eqb-true account a own) enough) in
-            rw (own, cash) here
-        | inr other ↦ rw (own, other) (omega arith)
-      ]
-      | inr other ↦ rw other (omega arith)
-    ]
-
-split-takes : (history : List Act) (account a : ℕ) (k : Collection) (condition : ℕ) (sets : List ℕ) (amount : ℕ) → amount ≤ balance history account root
-    → debits (debit account root amount ∷ map (λ set. credit account (set_of condition set) amount) sets) a k ≤ balance history a k
-split-takes history account a k condition sets amount enough =
-    omega (arith, sets-take a k account condition sets amount, sum_by-cons (taken_from_account a k) (debit account root amount) (map (λ set. credit account (set_of condition set) amount) sets), cash-takes history account a k amount enough)
-
-takes-within : (limits : Bounds) (history : List Act) (act : Act) (command : Command) → IsAccepted limits history act → act.command ≡ command → (a : ℕ) (k : Collection) → debits (postings_of act.account command) a k ≤ balance history a k
-takes-within limits history act (Deposit to amount) accepted is a k = omega (arith, nothing (to == a) (same_collection root k) 0 refl)
-takes-within limits history act (Prepare oracle question slots) accepted is a k = omega arith
-takes-within limits history act (Split parent condition sets amount) accepted is a k =
-    split-takes history act.account a k condition sets amount (accepted-split (question_of limits history act) parent condition sets amount accepted.accepted is)
-takes-within limits history act (Balance holder key) accepted is a k = omega arith
-takes-within limits history act Vault accepted is a k = omega arith
+IsCovered history = (a : ℕ) (k : Pairs) → debits (postings history) a k ≤ credits (postings history) a k
 
 covered-more : (limits : Bounds) (history : List Act) (act : Act) → IsCovered history → IsAccepted limits history act → IsCovered (history ++ act ∷ [])
 covered-more limits history act so_far accepted a k =
-    omega (arith, so_far a k, takes-within limits history act act.command accepted refl a k, sum-more (paid_to_account a k) history act, sum-more (taken_from_account a k) history act)
+    omega (arith, so_far a k, posts-funded limits history act accepted a k, sum-more (paid_to_account a k) history act, sum-more (taken_from_account a k) history act)
 
 element-at : (history : List Act) (n : ℕ) → n < length history → (act : Act) × (slice_get history n ≡ Some act) × (take (suc n) history ≡ take n history ++ act ∷ [])
 element-at [] n inside = absurd (omega arith)
@@ -173,8 +154,8 @@ unfolding over_accounts
 over-difference zero f g within = refl
 over-difference (suc n) f g within = omega (arith, over-difference n f g within, within n)
 
-pub supply-held : (limits : Bounds) (history : List Act) (k : Collection) → IsLegal limits history → All (λ act. is_account act.account ≡ true) history → held_by_all history k ≡ supply history k
+pub supply-held : (limits : Bounds) (history : List Act) (k : Pairs) → IsLegal limits history → All (λ act. is_account act.account ≡ true) history → held_by_all history k ≡ supply history k
 supply-held limits history k legal fits =
     let ps = postings history in
-    let within = all-of-accounts history blank (legal-askable limits history legal) fits (All-nil (λ (p : Posting). p.account < 2 ^ 16)) in
+    let within = all-of-accounts history blank (legal-acts limits history legal) fits (All-nil (λ (p : Posting). p.account < 2 ^ 16)) in
     omega (arith, over-postings (2 ^ 16) (paid_to k) ps within, over-postings (2 ^ 16) (taken_from k) ps within, over-difference (2 ^ 16) (λ a. credits ps a k) (λ a. debits ps a k) (λ a. covered limits history legal a k))

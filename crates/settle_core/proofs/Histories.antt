@@ -1,5 +1,5 @@
 -- What one act more does to a history.
-use Rattle.std.proofs.Common.{◌≡◌, ℕ, ◌+◌, ◌<◌, List, [], ◌∷◌, ◌++◌, length, take, get_or, Some, sym, ◌∙◌, ap, subst, inl, inr, arith, length-append}
+use Rattle.std.proofs.Common.{◌≡◌, ℕ, ◌+◌, ◌<◌, List, [], ◌∷◌, ◌++◌, length, take, get_or, Some, true, sym, ◌∙◌, ap, subst, inl, inr, arith, length-append}
 use Rattle.std.specs.Prelude.{slice_get, sum_by, All}
 use Rattle.std.proofs.lemmas.Bool.{cases_lt}
 use Rattle.std.proofs.lemmas.List.{get_or_append_left, take-append-le}
@@ -7,10 +7,10 @@ use Rattle.std.proofs.lemmas.List.Sums.{fold-append, sum_by_push, sum_by-append}
 use Rattle.std.proofs.lemmas.Option.{slice_get_within, slice_get-get_or}
 use Rattle.std.proofs.Math.Seq.{get_or-append_seam, take-append_seam}
 use Rattle.command_words.specs.declared.act.Act.{Act}
-use Rattle.settle_core.specs.Askable.{IsAskable}
+use Rattle.command_words.specs.Command.{may_be_act}
 use Rattle.settle_core.specs.Bounds.{Bounds}
 use Rattle.settle_core.specs.Legal.{IsAccepted, IsLegal}
-use Rattle.settle_core.specs.declared.ledger_book.posting.Posting.{Posting}
+use Rattle.ledger_book.specs.declared.posting.Posting.{Posting}
 use Rattle.settle_core.specs.Book.{blank, book, entered, conditions, prepared_by, postings, postings_of, Book}
 use Rattle.settle_core.specs.Postings.{vault, deposit_of}
 
@@ -44,11 +44,9 @@ IsLegal-more limits history act legal accepted place other at =
           subst P (sym taken) (subst (IsAccepted limits history) (at_last history act other place end at) accepted)
     ]
 
--- each act of a legal history may be asked again
-pub legal-askable : (limits : Bounds) (history : List Act) → IsLegal limits history → All IsAskable history
-legal-askable limits history legal place act inside =
-    let is = legal place (get_or history place act) (slice_get-get_or history place act inside) in
-    record { makes_act = is.makes_act; in_ranges = is.in_ranges; is_built = is.is_built }
+-- each act of a legal history may be one
+pub legal-acts : (limits : Bounds) (history : List Act) → IsLegal limits history → All (λ act. may_be_act act.command ≡ true) history
+legal-acts limits history legal place act inside = (legal place (get_or history place act) (slice_get-get_or history place act inside)).may_be_act
 
 -- one act more is entered behind the others
 book-more : (history : List Act) (act : Act) → book (history ++ act ∷ []) ≡ entered (book history) act
@@ -59,12 +57,16 @@ pub vault-more : (history : List Act) (act : Act) → vault (history ++ act ∷ 
 vault-more history act = sum_by_push (λ (a : Act). deposit_of a.command) history act
 
 -- an act more prepares its condition
-pub conditions-more : (history : List Act) (act : Act) → conditions (history ++ act ∷ []) ≡ conditions history ++ prepared_by act.command
+pub conditions-more : (history : List Act) (act : Act) → conditions (history ++ act ∷ []) ≡ conditions history ++ prepared_by (book history) act.command
 conditions-more history act = ap (λ (b : Book). b.conditions) (book-more history act)
 
 -- an act more posts behind the others, which adds to every sum over what was posted
-pub postings-more : (history : List Act) (act : Act) → postings (history ++ act ∷ []) ≡ postings history ++ postings_of act.account act.command
+pub postings-more : (history : List Act) (act : Act) → postings (history ++ act ∷ []) ≡ postings history ++ postings_of (book history) act.account act.command
 postings-more history act = ap (λ (b : Book). b.postings) (book-more history act)
 
-pub sum-more : (f : Posting → ℕ) (history : List Act) (act : Act) → sum_by f (postings (history ++ act ∷ [])) ≡ sum_by f (postings history) + sum_by f (postings_of act.account act.command)
-sum-more f history act = ap (sum_by f) (postings-more history act) ∙ sum_by-append f (postings history) (postings_of act.account act.command)
+pub sum-more : (f : Posting → ℕ) (history : List Act) (act : Act) → sum_by f (postings (history ++ act ∷ [])) ≡ sum_by f (postings history) + sum_by f (postings_of (book history) act.account act.command)
+sum-more f history act = ap (sum_by f) (postings-more history act) ∙ sum_by-append f (postings history) (postings_of (book history) act.account act.command)
+
+-- an act more adds as many postings as it posts
+pub length-more : (history : List Act) (act : Act) → length (postings (history ++ act ∷ [])) ≡ length (postings history) + length (postings_of (book history) act.account act.command)
+length-more history act = ap length (postings-more history act) ∙ length-append (postings history) (postings_of (book history) act.account act.command)

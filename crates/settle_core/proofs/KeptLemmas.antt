@@ -1,30 +1,43 @@
 -- What an exchange keeps goes on with each accepted act.
-use Rattle.std.proofs.Common.{◌≡◌, ℕ, ◌+◌, ◌≤◌, List, [], ◌∷◌, ◌++◌, sym, ◌∙◌, ap, arith, length-append, refl, false, subst, None}
-use Rattle.std.specs.Prelude.{ℤ, pos, nat_abs, ◌+ℤ◌, ◌≤ℤ◌}
+use Rattle.std.proofs.Common.{◌≡◌, ℕ, ◌+◌, ◌^◌, ◌<◌, ◌≤◌, List, length, [], ◌∷◌, ◌++◌, sym, ◌∙◌, ap, arith, length-append, refl, false, subst, None}
+use Rattle.std.specs.Prelude.{ℤ, pos, nat_abs, ◌+ℤ◌, ◌≤ℤ◌, option_map, nat_le, Bool, true, Option, Some}
+use Rattle.std.proofs.lemmas.Bool.Decides.{nat_tests}
+use Rattle.command_words.specs.declared.refusal.Refusal.{Refusal}
+use Rattle.command_words.specs.declared.refusal.Refusal.TheVariants.{SupplyLimit, EntriesLimit, HistoryFull}
 use Rattle.std.proofs.lemmas.Int.{ints}
 use Rattle.condition_sets.specs.declared.amount.TheConstants.{MAX_AMOUNT}
 use Rattle.command_words.specs.declared.act.Act.{Act}
 use Rattle.settle_core.specs.declared.condition_table.facts.Facts.{Facts}
-use Rattle.settle_core.specs.Book.{conditions, prepared_by, postings_of}
+use Rattle.settle_core.specs.Book.{book, conditions, postings, prepared_by, postings_of}
 use Rattle.settle_core.specs.Bounds.{Bounds}
-use Rattle.settle_core.specs.Ledger.{LedgerView, HoldSame, amount_at, supply_at}
-use Rattle.command_words.specs.Keys.{Collection}
-use Rattle.settle_core.specs.Kept.{IsKept}
+use Rattle.collection_keys.specs.Collections.{Pairs}
+use Rattle.collection_keys.proofs.Sameness.{same_collection_Decides}
+use Rattle.ledger_book.specs.Entries.{HasEntries, AreEntries, has_position, held_after, entries_of}
+use Rattle.ledger_book.specs.Ledger.{LedgerView, IsEmpty, HoldSame, amount_at, supply_at, names}
+use Rattle.ledger_book.specs.Naming.{new_names}
+use Rattle.ledger_book.specs.Postings.{credits, debits, minted, burnt, paid_to, taken_from, paid_to_account, taken_from_account, IsFunded}
+use Rattle.ledger_book.specs.Staging.{StagedView, oversupplied}
+use Rattle.ledger_book.proofs.Fresh.{length-new_names}
+use Rattle.settle_core.specs.Kept.{IsKept, most_posted}
 use Rattle.settle_core.specs.Legal.{IsAccepted}
-use Rattle.settle_core.specs.declared.ledger_book.posting.Posting.{Posting}
-use Rattle.settle_core.specs.Postings.{deposit_of, balance, supply, credits, debits, minted, burnt, paid_to, taken_from, paid_to_account, taken_from_account}
-use Rattle.settle_core.specs.Staging.{StagedView, IsFunded, oversupplied}
+use Rattle.ledger_book.specs.declared.posting.Posting.{Posting}
+use Rattle.settle_core.specs.Postings.{deposit_of, balance, supply}
 use Rattle.settle_core.specs.Exchange.{AreChangesOf}
 use Rattle.settle_core.specs.Conditions.{ConditionsView}
-use Rattle.settle_core.specs.Verdict.{question_of, prepares_again, is_above_table}
-use Rattle.settle_core.proofs.Histories.{IsLegal-more, vault-more, conditions-more, sum-more}
-use Rattle.settle_core.proofs.Verdicts.{accepted-within, accepted-vault, accepted-supply, accepted-new, accepted-table}
+use Rattle.settle_core.specs.Refusals.{where_, prepares_again, is_above_table, is_above_entries}
+use Rattle.settle_core.specs.Verdict.{question_of, first_some}
+use Rattle.command_words.specs.declared.act.TheConstants.{MAX_HISTORY}
+use Rattle.command_words.proofs.Acts.{act-makes, act-ranges}
+use Rattle.settle_core.proofs.EntryCounts.{after-within, after-counted, counted-new}
+use Rattle.settle_core.proofs.Histories.{IsLegal-more, vault-more, conditions-more, sum-more, length-more}
+use Rattle.settle_core.proofs.Posted.{posted-few}
+use Rattle.settle_core.proofs.Verdicts.{accepted-within, accepted-vault, accepted-supply, accepted-entries, accepted-new, accepted-table}
 
 -- the balances and the supplies that are kept are those of the history
-pub kept-balance : (limits : Bounds) (table : ConditionsView) (ledger : LedgerView) (history : List Act) → IsKept limits table ledger history → (a : ℕ) (k : Collection) → balance history a k ≡ amount_at ledger a k
+pub kept-balance : (limits : Bounds) (table : ConditionsView) (ledger : LedgerView) (history : List Act) → IsKept limits table ledger history → (a : ℕ) (k : Pairs) → balance history a k ≡ amount_at ledger a k
 kept-balance limits table ledger history kept a k = omega (arith, kept.balances a k)
 
-pub kept-supply : (limits : Bounds) (table : ConditionsView) (ledger : LedgerView) (history : List Act) → IsKept limits table ledger history → (k : Collection) → supply history k ≡ supply_at ledger k
+pub kept-supply : (limits : Bounds) (table : ConditionsView) (ledger : LedgerView) (history : List Act) → IsKept limits table ledger history → (k : Pairs) → supply history k ≡ supply_at ledger k
 kept-supply limits table ledger history kept k = omega (arith, kept.supplies k)
 
 -- an accepted act pays no more into the vault than it may hold
@@ -46,13 +59,13 @@ kept-table limits table ledger history act kept accepted =
 -- the changes of an act take what the ledger holds
 pub kept-funded : (limits : Bounds) (table : ConditionsView) (ledger : LedgerView) (history : List Act) (ps : List Posting) → IsKept limits table ledger history → IsFunded (balance history) ps → IsFunded (amount_at ledger) ps
 kept-funded limits table ledger history ps kept funded =
-    subst (λ (held : ℕ → Collection → ℕ). IsFunded held ps) (λ i a k. kept-balance limits table ledger history kept a k i) funded
+    subst (λ (held : ℕ → Pairs → ℕ). IsFunded held ps) (λ i a k. kept-balance limits table ledger history kept a k i) funded
 
 -- the changes of an accepted act leave every supply within its limit
 pub kept-admitted : (limits : Bounds) (table : ConditionsView) (ledger : LedgerView) (history : List Act) (act : Act) (changes : StagedView) → IsKept limits table ledger history → IsAccepted limits history act → AreChangesOf history act.account act.command changes → oversupplied (supply_at ledger) changes.postings ≡ None
 kept-admitted limits table ledger history act changes kept accepted are =
     ap (oversupplied (supply_at ledger)) are.postings
-    ∙ (sym (ap (λ (supplied : Collection → ℕ). oversupplied supplied (postings_of act.account act.command)) (λ i k. kept-supply limits table ledger history kept k i))
+    ∙ (sym (ap (λ (supplied : Pairs → ℕ). oversupplied supplied (postings_of (book history) act.account act.command)) (λ i k. kept-supply limits table ledger history kept k i))
     ∙ accepted-supply (question_of limits history act) accepted.accepted)
 
 -- and the vault within its own
@@ -60,19 +73,38 @@ pub kept-vault : (limits : Bounds) (table : ConditionsView) (ledger : LedgerView
 kept-vault limits table ledger history act changes kept accepted are =
     subst (λ (change : ℤ). (pos ledger.vault +ℤ change) ≤ℤ pos MAX_AMOUNT) (sym are.vault) (omega (arith, ints, kept-pays limits table ledger history act kept accepted))
 
+-- and no more balances than there may be
+pub kept-entries : (limits : Bounds) (table : ConditionsView) (ledger : LedgerView) (history : List Act) (act : Act) (changes : StagedView) → IsKept limits table ledger history → IsAccepted limits history act → AreChangesOf history act.account act.command changes
+    → (n : ℕ) → HasEntries (held_after (amount_at ledger) changes.postings) n → n ≤ ledger.limit
+kept-entries limits table ledger history act changes kept accepted are n has =
+    let funded = kept-funded limits table ledger history changes.postings kept are.funded in
+    let fits = subst (λ (ps : List Posting). is_above_entries limits.entries (postings history) ps ≡ false) (sym are.postings) (accepted-entries (question_of limits history act) accepted.accepted) in
+    omega (arith, kept.limit, after-within (amount_at ledger) (postings history) changes.postings limits.entries kept.balances funded kept.entries fits n has)
+
+-- the ledger has room for as many names as the changes may give
+pub kept-names : (limits : Bounds) (table : ConditionsView) (ledger : LedgerView) (history : List Act) (act : Act) (changes : StagedView) → IsKept limits table ledger history → IsAccepted limits history act → AreChangesOf history act.account act.command changes
+    → length (names ledger) + length changes.postings < 2 ^ 32
+kept-names limits table ledger history act changes kept accepted are =
+    let few : length changes.postings ≤ most_posted = subst (λ (ps : List Posting). length ps ≤ most_posted) (sym are.postings) (posted-few (book history) act.account act.command (act-ranges act.command accepted.may_be_act)) in
+    omega (arith, kept.names, kept.few, kept.within, kept.bounded, few)
+
 pub kept-more : (limits : Bounds) (table table' : ConditionsView) (ledger ledger' : LedgerView) (history : List Act) (act : Act) (changes : StagedView) → IsKept limits table ledger history → IsAccepted limits history act → AreChangesOf history act.account act.command changes
-    → table'.facts ≡ table.facts ++ prepared_by act.command → table'.limit ≡ table.limit
-    → ((a : ℕ) (k : Collection) → amount_at ledger' a k + debits changes.postings a k ≡ amount_at ledger a k + credits changes.postings a k)
-    → ((k : Collection) → supply_at ledger' k + burnt changes.postings k ≡ supply_at ledger k + minted changes.postings k)
+    → table'.facts ≡ table.facts ++ prepared_by (book history) act.command → table'.limit ≡ table.limit
+    → ((a : ℕ) (k : Pairs) → amount_at ledger' a k + debits changes.postings a k ≡ amount_at ledger a k + credits changes.postings a k)
+    → ((k : Pairs) → supply_at ledger' k + burnt changes.postings k ≡ supply_at ledger k + minted changes.postings k)
     → pos ledger'.vault ≡ pos ledger.vault +ℤ changes.vault
+    → names ledger' ≡ names ledger ++ new_names (names ledger) changes.postings → ledger'.limit ≡ ledger.limit
     → IsKept limits table' ledger' (history ++ act ∷ [])
-kept-more limits table table' ledger ledger' history act changes kept accepted are facts limit balances' supplies' vault' =
+kept-more limits table table' ledger ledger' history act changes kept accepted are facts limit balances' supplies' vault' names' most' =
+    let funded_here = kept-funded limits table ledger history changes.postings kept are.funded in
+    let posted = length-more history act in
+    let as_many : length changes.postings ≡ length (postings_of (book history) act.account act.command) = ap length are.postings in
     let paid_in : ledger'.vault ≡ ledger.vault + deposit_of act.command = ap nat_abs (vault' ∙ ap (λ (change : ℤ). pos ledger.vault +ℤ change) are.vault) in
     record {
       legal = IsLegal-more limits history act kept.legal accepted;
-      within = omega (arith, length-append history (act ∷ []), accepted-within (question_of limits history act) accepted.accepted accepted.makes_act);
+      within = omega (arith, length-append history (act ∷ []), accepted-within (question_of limits history act) accepted.accepted (act-makes act.command accepted.may_be_act));
       bounded = kept.bounded;
-      conditions = facts ∙ (ap (λ (prepared : List Facts). prepared ++ prepared_by act.command) kept.conditions ∙ sym (conditions-more history act));
+      conditions = facts ∙ (ap (λ (prepared : List Facts). prepared ++ prepared_by (book history) act.command) kept.conditions ∙ sym (conditions-more history act));
       most = limit ∙ kept.most;
       vault = paid_in ∙ (ap (λ (n : ℕ). n + deposit_of act.command) kept.vault ∙ sym (vault-more history act));
       funded = omega (arith, paid_in, kept-pays limits table ledger history act kept accepted);
@@ -82,10 +114,14 @@ kept-more limits table table' ledger ledger' history act changes kept accepted a
       supplies = λ k.
           let moved = subst (λ (ps : List Posting). supply_at ledger' k + burnt ps k ≡ supply_at ledger k + minted ps k) are.postings (supplies' k) in
           omega (arith, kept.supplies k, moved, sum-more (paid_to k) history act, sum-more (taken_from k) history act);
+      limit = most' ∙ kept.limit;
+      entries = λ n has. omega (arith, kept.limit, kept-entries limits table ledger history act changes kept accepted are n (counted-new (amount_at ledger) (amount_at ledger') changes.postings n funded_here balances' has));
+      names = omega (arith, kept.names, posted, as_many, ap length names', length-append (names ledger) (new_names (names ledger) changes.postings), length-new_names (names ledger) changes.postings);
+      few = omega (arith, kept.few, posted, posted-few (book history) act.account act.command (act-ranges act.command accepted.may_be_act), length-append history (act ∷ []));
     }
 
 pub hold-same : (ledger : LedgerView) → HoldSame ledger ledger
-hold-same ledger = record { balances = λ a k. refl; supplies = λ k. refl; vault = refl }
+hold-same ledger = record { amounts = λ a k. refl; supplies = λ k. refl; names = refl; vault = refl; limit = refl }
 
 -- what is kept stays where the table and the ledger have more room alone
 pub kept-same : (limits : Bounds) (table table' : ConditionsView) (ledger ledger' : LedgerView) (history history' : List Act) → IsKept limits table ledger history → table'.facts ≡ table.facts → table'.limit ≡ table.limit → HoldSame ledger ledger' → history' ≡ history → IsKept limits table' ledger' history'
@@ -98,6 +134,82 @@ kept-same limits table table' ledger ledger' history history' kept facts limit s
       most = limit ∙ kept.most;
       vault = same.vault ∙ kept.vault;
       funded = omega (arith, same.vault, kept.funded);
-      balances = λ a k. omega (arith, same.balances a k, kept.balances a k);
+      balances = λ a k. omega (arith, same.amounts a k, kept.balances a k);
       supplies = λ k. omega (arith, same.supplies k, kept.supplies k);
+      limit = same.limit ∙ kept.limit;
+      entries = λ n has. kept.entries n (subst (λ (f : ℕ → Pairs → ℕ). HasEntries f n) (λ i a k. same.amounts a k i) has);
+      names = omega (arith, kept.names, ap length same.names);
+      few = kept.few;
     })
+
+-- ---- the empty history
+
+none-counted : (held : ℕ → Pairs → ℕ) (n : ℕ) → ((a : ℕ) (k : Pairs) → held a k ≡ 0) → HasEntries held n → n ≤ 0
+none-counted held n nothing has = counted has.0 has.1 has.2
+  where
+    counted : (ps : List (ℕ × Pairs)) → AreEntries held ps → length ps ≡ n → n ≤ 0
+    counted [] are is = omega (arith, is)
+    counted (p ∷ ps) are is = absurd (omega (arith, are.each p.0 p.1 (here p ps), nothing p.0 p.1))
+      where
+        here : (p : ℕ × Pairs) (ps : List (ℕ × Pairs)) → has_position (p ∷ ps) p.0 p.1 ≡ true
+        here p ps = grind (arith, nat_tests, (same_collection_Decides p.1 p.1).1 refl)
+
+pub kept-empty : (limits : Bounds) (table : ConditionsView) (ledger : LedgerView) (history : List Act) → history ≡ [] → limits.history ≤ MAX_HISTORY → table.facts ≡ [] → table.limit ≡ limits.conditions → IsEmpty ledger → ledger.limit ≡ limits.entries
+    → IsKept limits table ledger history
+kept-empty limits table ledger history none bounded facts limit empty entries =
+    subst (λ (h : List Act). IsKept limits table ledger h) (sym none) (record {
+      legal = λ place act at. cc;
+      within = omega arith;
+      bounded = bounded;
+      conditions = facts;
+      most = limit;
+      vault = empty.vault;
+      funded = omega (arith, empty.vault);
+      balances = λ a k. omega (arith, empty.amounts a k);
+      supplies = λ k. omega (arith, empty.supplies k);
+      limit = entries;
+      entries = λ n has. omega (arith, none-counted (amount_at ledger) n empty.amounts has);
+      names = omega (arith, ap length empty.names);
+      few = omega arith;
+    })
+
+-- ---- the refusals of changes that are staged
+
+pub kept-oversupplied : (limits : Bounds) (table : ConditionsView) (ledger : LedgerView) (history : List Act) (ps : List Posting) → IsKept limits table ledger history → oversupplied (supply history) ps ≡ oversupplied (supply_at ledger) ps
+kept-oversupplied limits table ledger history ps kept = ap (λ (supplied : Pairs → ℕ). oversupplied supplied ps) (λ i k. kept-supply limits table ledger history kept k i)
+
+pub kept-few : (limits : Bounds) (table : ConditionsView) (ledger : LedgerView) (history : List Act) (ps : List Posting) → IsKept limits table ledger history → IsFunded (balance history) ps
+    → ((n : ℕ) → HasEntries (held_after (amount_at ledger) ps) n → n ≤ ledger.limit) → is_above_entries limits.entries (postings history) ps ≡ false
+kept-few limits table ledger history [] kept funded few = refl
+kept-few limits table ledger history (p ∷ ps) kept funded few =
+    let n = few (entries_of (postings history ++ p ∷ ps)) (after-counted (amount_at ledger) (postings history) (p ∷ ps) kept.balances (kept-funded limits table ledger history (p ∷ ps) kept funded)) in
+    let most = kept.limit in
+    grind (arith, nat_tests, n, most)
+
+pub kept-many : (limits : Bounds) (table : ConditionsView) (ledger : LedgerView) (history : List Act) (ps : List Posting) → IsKept limits table ledger history → IsFunded (balance history) ps → 0 < length ps
+    → ((n : ℕ) → HasEntries (held_after (amount_at ledger) ps) n → ledger.limit < n) → is_above_entries limits.entries (postings history) ps ≡ true
+kept-many limits table ledger history [] kept funded some many = absurd (omega (arith, some))
+kept-many limits table ledger history (p ∷ ps) kept funded some many =
+    let n = many (entries_of (postings history ++ p ∷ ps)) (after-counted (amount_at ledger) (postings history) (p ∷ ps) kept.balances (kept-funded limits table ledger history (p ∷ ps) kept funded)) in
+    let most = kept.limit in
+    grind (arith, nat_tests, n, most)
+
+-- the last refusals, by what the ledger admits
+abbrev pub last_refusals : Bounds → List Act → List Posting → Option Refusal
+last_refusals limits history ps = first_some (option_map SupplyLimit (oversupplied (supply history) ps) ∷ where_ (is_above_entries limits.entries (postings history) ps) EntriesLimit ∷ where_ (nat_le limits.history (length history)) HistoryFull ∷ [])
+
+pub last-by : (limits : Bounds) (history : List Act) (ps : List Posting) (supplied : Option ℕ) (many full : Bool) → oversupplied (supply history) ps ≡ supplied → is_above_entries limits.entries (postings history) ps ≡ many
+    → nat_le limits.history (length history) ≡ full → last_refusals limits history ps ≡ first_some (option_map SupplyLimit supplied ∷ where_ many EntriesLimit ∷ where_ full HistoryFull ∷ [])
+last-by limits history ps supplied many full one two three = rw (one, two, three) refl
+
+pub last-supply : (limits : Bounds) (history : List Act) (ps : List Posting) (supplied : ℕ) → oversupplied (supply history) ps ≡ Some supplied → last_refusals limits history ps ≡ Some (SupplyLimit supplied)
+last-supply limits history ps supplied is = rw is refl
+
+pub last-many : (limits : Bounds) (history : List Act) (ps : List Posting) → oversupplied (supply history) ps ≡ None → is_above_entries limits.entries (postings history) ps ≡ true → last_refusals limits history ps ≡ Some EntriesLimit
+last-many limits history ps none many = rw (none, many) refl
+
+pub last-full : (limits : Bounds) (history : List Act) (ps : List Posting) → oversupplied (supply history) ps ≡ None → is_above_entries limits.entries (postings history) ps ≡ false → nat_le limits.history (length history) ≡ true → last_refusals limits history ps ≡ Some HistoryFull
+last-full limits history ps none few full = rw (none, few, full) refl
+
+pub last-none : (limits : Bounds) (history : List Act) (ps : List Posting) → oversupplied (supply history) ps ≡ None → is_above_entries limits.entries (postings history) ps ≡ false → nat_le limits.history (length history) ≡ false → last_refusals limits history ps ≡ None
+last-none limits history ps none few full = rw (none, few, full) refl

@@ -1,37 +1,45 @@
 -- What follows from a verdict.
-use Rattle.std.proofs.Common.{◌≡◌, ℕ, ◌+◌, ◌<◌, ◌≤◌, List, [], ◌∷◌, length, Option, Some, None, refl, subst, arith, zero, suc, Bool, true, false}
-use Rattle.std.specs.Prelude.{slice_get, nat_le, nat_lt, ◌&&◌, option_map, Err}
+use Rattle.std.proofs.Common.{◌≡◌, ℕ, ◌+◌, ◌<◌, ◌≤◌, List, [], ◌∷◌, length, Option, Some, None, refl, arith, Bool, true, false}
+use Rattle.std.specs.Prelude.{nat_le, nat_lt, ◌&&◌, option_map, Err}
 use Rattle.std.proofs.lemmas.Bool.Decides.{nat_tests}
+use Rattle.collection_keys.specs.Collections.{Pairs}
 use Rattle.condition_sets.specs.declared.amount.TheConstants.{MAX_AMOUNT}
+use Rattle.command_words.proofs.Acts.{act-of-parts}
+use Rattle.command_words.specs.Command.{makes_act, is_act_form, may_be_act}
+use Rattle.command_words.specs.Ranges.{is_short}
 use Rattle.command_words.specs.declared.command.Command.{Command}
-use Rattle.command_words.specs.declared.command.Command.TheVariants.{Deposit, Prepare, Split, Balance, Vault}
+use Rattle.command_words.specs.declared.command.Command.TheVariants.{Deposit, Split, Merge, Move, Redeem, Place}
 use Rattle.command_words.specs.declared.refusal.Refusal.{Refusal}
-use Rattle.command_words.specs.declared.refusal.Refusal.TheVariants.{NotAllowed, NoCondition, AlreadyPrepared, TableFull, Unfunded, VaultLimit, SupplyLimit, HistoryFull, Memory}
-use Rattle.command_words.specs.Command.{makes_act}
-use Rattle.command_words.specs.Keys.{Collection, root}
-use Rattle.settle_core.specs.Book.{conditions, postings_of}
+use Rattle.command_words.specs.declared.refusal.Refusal.TheVariants.{NoCondition, AlreadyPrepared, TableFull, BadSet, BadPartition, Held, TooDeep, Unfunded, VaultLimit, SupplyLimit, EntriesLimit, HistoryFull, Memory}
+use Rattle.ledger_book.specs.Planning.{first_short}
+use Rattle.ledger_book.specs.Staging.{oversupplied}
+use Rattle.settle_core.specs.Book.{book, conditions, postings, postings_of}
+use Rattle.settle_core.specs.Built.{is_built}
+use Rattle.settle_core.specs.Keys.{key_of, sets_of, is_held, most_pairs}
+use Rattle.settle_core.specs.Legal.{IsPlannable}
 use Rattle.settle_core.specs.Postings.{balance, supply, vault, deposit_of}
-use Rattle.settle_core.specs.Staging.{oversupplied}
-use Rattle.settle_core.specs.Verdict.{Question, verdict, where_, first_some, refusals, prepares_again, already_prepared, is_above_table, table_full, shortage, unfunded, is_above_vault, vault_limit, supply_limit, history_full, AnsweredBy}
+use Rattle.settle_core.specs.Refusals.{Question, where_, not_allowed, names_none, no_condition, prepares_again, already_prepared, is_above_table, table_full, names_bad_set, bad_set, names_no_partition, bad_partition, already_held, too_deep, amount_of, taken_by, unfunded, is_above_vault, vault_limit, supply_limit, is_above_entries, entries_limit, history_full}
+use Rattle.settle_core.specs.Verdict.{verdict, first_some, refusals, AnsweredBy}
 
 -- a call that refuses by the verdict is answered by it
 pub answered-err : (X : Type 0) (given : Option Refusal) (refusal : Refusal) → given ≡ Some refusal → AnsweredBy {X = X} given (Err refusal)
-answered-err X given NotAllowed same = same
-answered-err X given NoCondition same = same
-answered-err X given AlreadyPrepared same = same
-answered-err X given TableFull same = same
-answered-err X given (Unfunded have place) same = same
-answered-err X given (VaultLimit held) same = same
-answered-err X given (SupplyLimit held) same = same
-answered-err X given HistoryFull same = same
 answered-err X given Memory same = tt
+answered-err X given refusal same = same
 
--- where nothing is there, each is none
-first_some-none : {X : Type 0} (os : List (Option X)) (place : ℕ) (o : Option X) → first_some os ≡ None → slice_get os place ≡ Some o → o ≡ None
-first_some-none [] place o none at = cc
-first_some-none (Some x ∷ os) place o none at = cc
-first_some-none (None ∷ os) zero o none at = cc
-first_some-none (None ∷ os) (suc place) o none at = first_some-none os place o none at
+-- each of the list is none
+abbrev AreNone : {X : Type 0} → List (Option X) → Type 0
+AreNone [] = Unit {0}
+AreNone (o ∷ os) = (o ≡ None) × AreNone os
+
+first_some-all : {X : Type 0} (os : List (Option X)) → first_some os ≡ None → AreNone os
+first_some-all [] none = tt
+first_some-all (Some x ∷ os) none = cc
+first_some-all (None ∷ os) none = (refl, first_some-all os none)
+
+-- where nothing is refused, each condition is none
+none-refuses : (q : Question) → verdict q ≡ None → AreNone (refusals q)
+unfolding verdict
+none-refuses q none = first_some-all (refusals q) none
 
 -- a condition whose refusal isn't there doesn't hold
 where_-none : (holds : Bool) (refusal : Refusal) → where_ holds refusal ≡ None → holds ≡ false
@@ -44,49 +52,112 @@ and_right false b first both = cc
 
 -- an accepted command that makes an act finds the history within its limit
 pub accepted-within : (q : Question) → verdict q ≡ None → makes_act q.command ≡ true → length q.history < q.limits.history
-unfolding verdict
 accepted-within q none acts =
-    let full : history_full q ≡ None = first_some-none (refusals q) 7 (history_full q) none refl in
+    let all = none-refuses q none in
+    let full : history_full q ≡ None = assumption (all) in
     let room : nat_le q.limits.history (length q.history) ≡ false = and_right (makes_act q.command) (nat_le q.limits.history (length q.history)) acts (where_-none _ HistoryFull full) in
     grind (arith, nat_tests, room)
 
 deposit-within : (held : ℕ) (command : Command) → held ≤ MAX_AMOUNT → is_above_vault held command ≡ false → held + deposit_of command ≤ MAX_AMOUNT
 deposit-within held (Deposit to amount) funded below = grind (arith, nat_tests, below)
-deposit-within held (Prepare oracle question slots) funded below = omega arith
-deposit-within held (Split parent condition sets amount) funded below = omega arith
-deposit-within held (Balance holder key) funded below = omega arith
-deposit-within held Vault funded below = omega arith
+deposit-within held command funded below = omega arith
 
 -- an accepted command leaves the vault within its limit
 pub accepted-vault : (q : Question) → verdict q ≡ None → vault q.history ≤ MAX_AMOUNT → vault q.history + deposit_of q.command ≤ MAX_AMOUNT
-unfolding verdict
 accepted-vault q none funded =
-    let limit : vault_limit q ≡ None = first_some-none (refusals q) 5 (vault_limit q) none refl in
+    let all = none-refuses q none in
+    let limit : vault_limit q ≡ None = assumption (all) in
     deposit-within (vault q.history) q.command funded (where_-none _ (VaultLimit (vault q.history)) limit)
 
 -- an accepted command prepares no condition again, and finds room in the table
 pub accepted-new : (q : Question) → verdict q ≡ None → prepares_again (conditions q.history) q.command ≡ false
-unfolding verdict
-accepted-new q none = where_-none _ AlreadyPrepared (first_some-none (refusals q) 2 (already_prepared q) none refl)
+accepted-new q none =
+    let all = none-refuses q none in
+    let new : already_prepared q ≡ None = assumption (all) in
+    where_-none _ AlreadyPrepared new
 
 pub accepted-table : (q : Question) → verdict q ≡ None → is_above_table q.limits.conditions (conditions q.history) q.command ≡ false
-unfolding verdict
-accepted-table q none = where_-none _ TableFull (first_some-none (refusals q) 3 (table_full q) none refl)
+accepted-table q none =
+    let all = none-refuses q none in
+    let room : table_full q ≡ None = assumption (all) in
+    where_-none _ TableFull room
 
 map-none : {X Y : Type 0} (f : X → Y) (o : Option X) → option_map f o ≡ None → o ≡ None
 map-none f None none = refl
 map-none f (Some x) none = cc
 
 -- an accepted command leaves every supply within its limit
-pub accepted-supply : (q : Question) → verdict q ≡ None → oversupplied (supply q.history) (postings_of q.account q.command) ≡ None
-unfolding verdict
-accepted-supply q none = map-none SupplyLimit (oversupplied (supply q.history) (postings_of q.account q.command)) (first_some-none (refusals q) 6 (supply_limit q) none refl)
+pub accepted-supply : (q : Question) → verdict q ≡ None → oversupplied (supply q.history) (postings_of (book q.history) q.account q.command) ≡ None
+accepted-supply q none =
+    let all = none-refuses q none in
+    let within : supply_limit q ≡ None = assumption (all) in
+    map-none SupplyLimit (oversupplied (supply q.history) (postings_of (book q.history) q.account q.command)) within
 
--- an accepted split takes cash that is there
-pub accepted-split : (q : Question) (parent : Collection) (condition : ℕ) (sets : List ℕ) (amount : ℕ) → verdict q ≡ None → q.command ≡ Split parent condition sets amount → amount ≤ balance q.history q.account root
+-- an accepted command takes what is there
+pub accepted-funds : (q : Question) → verdict q ≡ None → first_short (balance q.history q.account) (amount_of q.command) (taken_by (conditions q.history) q.command) ≡ None
+accepted-funds q none =
+    let all = none-refuses q none in
+    let funded : unfunded q ≡ None = assumption (all) in
+    map-none (λ (short : ℕ × ℕ). Unfunded short.1 short.0) (first_short (balance q.history q.account) (amount_of q.command) (taken_by (conditions q.history) q.command)) funded
+
+-- an accepted command leaves as many balances as there may be
+pub accepted-entries : (q : Question) → verdict q ≡ None → is_above_entries q.limits.entries (postings q.history) (postings_of (book q.history) q.account q.command) ≡ false
+accepted-entries q none =
+    let all = none-refuses q none in
+    let few : entries_limit q ≡ None = assumption (all) in
+    where_-none _ EntriesLimit few
+
+-- an accepted key isn't too deep
+pub accepted-depth : (q : Question) → verdict q ≡ None → nat_lt (most_pairs (sets_of q.command)) (length (key_of q.command)) ≡ false
+accepted-depth q none =
+    let all = none-refuses q none in
+    let deep : too_deep q ≡ None = assumption (all) in
+    where_-none _ TooDeep deep
+
+-- what an accepted command splits and merges is a partition
+pub accepted-partition : (q : Question) → verdict q ≡ None → names_no_partition q.command ≡ false
+accepted-partition q none =
+    let all = none-refuses q none in
+    let is : bad_partition q ≡ None = assumption (all) in
+    where_-none _ BadPartition is
+
+-- its parent hasn't the condition
+pub accepted-free : (q : Question) → verdict q ≡ None → is_held (key_of q.command) (sets_of q.command) ≡ false
+accepted-free q none =
+    let all = none-refuses q none in
+    let free : already_held q ≡ None = assumption (all) in
+    where_-none _ Held free
+
+-- its conditions are prepared, and its sets proper
+pub accepted-prepared : (q : Question) → verdict q ≡ None → names_none (conditions q.history) q.command ≡ false
+accepted-prepared q none =
+    let all = none-refuses q none in
+    let is : no_condition q ≡ None = assumption (all) in
+    where_-none _ NoCondition is
+
+pub accepted-proper : (q : Question) → verdict q ≡ None → names_bad_set (conditions q.history) q.command ≡ false
+accepted-proper q none =
+    let all = none-refuses q none in
+    let is : bad_set q ≡ None = assumption (all) in
+    where_-none _ BadSet is
+
+short-parent : (parent : Pairs) → nat_lt 3 (length parent) ≡ false → is_short parent ≡ true
+short-parent parent few = grind (arith, nat_tests, few)
+
+-- an accepted command may be an act's
+pub accepted-may : (q : Question) → verdict q ≡ None → IsPlannable q.command → may_be_act q.command ≡ true
+accepted-may q none plannable = act-of-parts q.command plannable.makes_act plannable.in_ranges (formed q.command (accepted-depth q none) plannable.is_built)
+  where
+    formed : (command : Command) → nat_lt (most_pairs (sets_of command)) (length (key_of command)) ≡ false → is_built command ≡ true → is_act_form command ≡ true
+    formed (Split parent condition sets amount) few built = short-parent parent few
+    formed (Merge parent condition sets amount) few built = short-parent parent few
+    formed (Move to key amount) few built = cc
+    formed (Redeem parent condition sets) few built = cc
+    formed (Place market set side making taking expires nonce fee) few built = cc
+    formed command few built = refl
+
+-- a command that no earlier refusal meets is refused by what it would leave, or by a full history
+pub at-last : (q : Question) → makes_act q.command ≡ true → not_allowed q ≡ None → no_condition q ≡ None → already_prepared q ≡ None → table_full q ≡ None → bad_set q ≡ None → bad_partition q ≡ None → already_held q ≡ None → too_deep q ≡ None
+    → unfunded q ≡ None → vault_limit q ≡ None → verdict q ≡ first_some (supply_limit q ∷ entries_limit q ∷ where_ (nat_le q.limits.history (length q.history)) HistoryFull ∷ [])
 unfolding verdict
-accepted-split q parent condition sets amount none is =
-    let funded : shortage q.history q.account q.command ≡ None = first_some-none (refusals q) 4 (unfunded q) none refl in
-    let here : shortage q.history q.account (Split parent condition sets amount) ≡ None = subst (λ (c : Command). shortage q.history q.account c ≡ None) is funded in
-    let enough : nat_lt (balance q.history q.account root) amount ≡ false = where_-none _ (Unfunded (balance q.history q.account root) 0) here in
-    grind (arith, nat_tests, enough)
+at-last q act allowed prepared new room proper apart free shallow funds vault = rw (allowed, prepared, new, room, proper, apart, free, shallow, funds, vault, act) refl

@@ -1,36 +1,39 @@
 -- What contracts see of an exchange.
-use Rattle.std.specs.Prelude.{◌≡◌, ℕ, ◌<◌, ◌≤◌, List, length, pos}
+use Rattle.std.specs.Prelude.{◌≡◌, ℕ, ◌<◌, List, pos}
 use Rattle.command_words.specs.declared.command.Command.{Command}
 use Rattle.command_words.specs.declared.act.Act.{Act}
-use Rattle.settle_core.specs.Book.{postings_of}
+use Rattle.settle_core.specs.Book.{book, postings_of}
 use Rattle.settle_core.specs.Bounds.{Bounds}
 use Rattle.settle_core.specs.Legal.{IsAccepted}
 use Rattle.settle_core.specs.Plan.{PlanView}
 use Rattle.settle_core.specs.Postings.{balance, deposit_of}
 use Rattle.settle_core.specs.Reply.{accepted_reply}
-use Rattle.settle_core.specs.Staging.{StagedView, IsFunded}
-use Rattle.settle_core.specs.Verdict.{Question}
+use Rattle.ledger_book.specs.Ledger.{LedgerView, IsReady}
+use Rattle.ledger_book.specs.Postings.{IsFunded}
+use Rattle.ledger_book.specs.Staging.{StagedView}
+use Rattle.settle_core.specs.Refusals.{Question}
 
--- its limits, its history, and for how many acts and how many postings more it has room without taking memory
+-- its limits, its history, for how many acts more it has room without taking memory, and its ledger, which has room for
+-- changes where it is ready for them
 pub record ExchangeView : Type 0 where
   pub limits : Bounds
   pub history : List Act
   pub room : ℕ
-  pub places : ℕ
+  pub ledger : LedgerView
 
 -- a command of an account at a moment, asked of the exchange
 abbrev pub asked : ExchangeView → ℕ → Command → ℕ → Question
 asked state account command moment =
     record { limits = state.limits; history = state.history; account = account; command = command; moment = moment }
 
--- the same exchange, whatever its room
+-- the same exchange, whatever it has room for
 pub record IsSame (old new : ExchangeView) : Type 0 where
   pub limits : new.limits ≡ old.limits
   pub history : new.history ≡ old.history
 
 -- the changes are those of a command of an account over a history, and what they take is there
 pub record AreChangesOf (history : List Act) (account : ℕ) (command : Command) (changes : StagedView) : Type 0 where
-  pub postings : changes.postings ≡ postings_of account command
+  pub postings : changes.postings ≡ postings_of (book history) account command
   pub vault : changes.vault ≡ pos (deposit_of command)
   pub funded : IsFunded (balance history) changes.postings
 
@@ -40,4 +43,4 @@ pub record IsPlanFor (state : ExchangeView) (plan : PlanView) : Type 0 where
   pub changes : AreChangesOf state.history plan.act.account plan.act.command plan.changes
   pub reply : plan.reply ≡ accepted_reply state.history plan.act.command
   pub room : 0 < state.room
-  pub places : length plan.changes.postings ≤ state.places
+  pub ready : IsReady state.ledger plan.changes.postings

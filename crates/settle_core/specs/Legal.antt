@@ -1,14 +1,21 @@
 -- Legal histories: each act was accepted over the acts before it.
 use Rattle.std.specs.Prelude.{◌≡◌, ℕ, true, List, take, slice_get, Some, None}
 use Rattle.command_words.specs.declared.act.Act.{Act}
+use Rattle.command_words.specs.declared.command.Command.{Command}
+use Rattle.command_words.specs.Command.{makes_act, in_ranges, may_be_act}
 use Rattle.settle_core.specs.Bounds.{Bounds}
-use Rattle.command_words.specs.Command.{makes_act, in_ranges, is_built}
+use Rattle.settle_core.specs.Built.{is_built}
 use Rattle.settle_core.specs.Verdict.{question_of, verdict}
 
--- the act's command makes an act and is carried out so far, its members are in their ranges, and the verdict on it refuses nothing
+-- a command that may be planned: it makes an act and is carried out so far, and its members are in their ranges
+pub record IsPlannable (command : Command) : Type 0 where
+  pub makes_act : makes_act command ≡ true
+  pub in_ranges : in_ranges command ≡ true
+  pub is_built : is_built command ≡ true
+
+-- the act's command may be one's and is carried out so far, and the verdict on it refuses nothing
 pub record IsAccepted (limits : Bounds) (history : List Act) (act : Act) : Type 0 where
-  pub makes_act : makes_act act.command ≡ true
-  pub in_ranges : in_ranges act.command ≡ true
+  pub may_be_act : may_be_act act.command ≡ true
   pub is_built : is_built act.command ≡ true
   pub accepted : verdict (question_of limits history act) ≡ None
 

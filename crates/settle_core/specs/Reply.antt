@@ -1,24 +1,24 @@
 -- The replies, and what the history is after them.
 use Rattle.std.specs.Prelude.{◌≡◌, Bool, true, false, MatchBool, if◌then◌else◌, List, [], ◌∷◌, ◌++◌, length, Option, Some, None}
 use Rattle.command_words.specs.declared.command.Command.{Command}
-use Rattle.command_words.specs.declared.command.Command.TheVariants.{Deposit, Prepare, Split, Balance, Vault}
+use Rattle.command_words.specs.declared.command.Command.TheVariants.{Prepare, Balance, Vault}
 use Rattle.command_words.specs.declared.act.Act.{Act}
 use Rattle.command_words.specs.declared.refusal.Refusal.{Refusal}
-use Rattle.command_words.specs.declared.refusal.Refusal.TheVariants.{NotAllowed, NoCondition, AlreadyPrepared, TableFull, Unfunded, VaultLimit, SupplyLimit, HistoryFull, Memory}
+use Rattle.command_words.specs.declared.refusal.Refusal.TheVariants.{Memory}
 use Rattle.command_words.specs.declared.reply.Reply.{Reply}
-use Rattle.command_words.specs.declared.reply.Reply.TheVariants.{Done, Prepared, Balanced, Vaulted, Refused, Bad}
+use Rattle.command_words.specs.declared.reply.Reply.TheVariants.{Done, Prepared, Balanced, Vaulted, Refused}
 use Rattle.command_words.specs.Command.{makes_act}
 use Rattle.settle_core.specs.Book.{conditions}
 use Rattle.settle_core.specs.Postings.{vault, balance}
-use Rattle.settle_core.specs.Verdict.{Question, verdict}
+use Rattle.settle_core.specs.Refusals.{Question}
+use Rattle.settle_core.specs.Verdict.{verdict}
 
 -- the reply to an accepted command, over the acts before it
 abbrev pub accepted_reply : List Act → Command → Reply
-accepted_reply history (Deposit to amount) = Done (length history)
 accepted_reply history (Prepare oracle question slots) = Prepared (length (conditions history)) (length history)
-accepted_reply history (Split parent condition sets amount) = Done (length history)
 accepted_reply history (Balance holder key) = Balanced (balance history holder key) (length history)
 accepted_reply history Vault = Vaulted (length history) (vault history)
+accepted_reply history command = Done (length history)
 
 abbrev pub reply_by : Option Refusal → Question → Reply
 reply_by None q = accepted_reply q.history q.command
@@ -46,23 +46,12 @@ no_memory = Refused Memory 0
 
 abbrev pub is_no_memory_refusal : Refusal → Bool
 is_no_memory_refusal Memory = true
-is_no_memory_refusal NotAllowed = false
-is_no_memory_refusal NoCondition = false
-is_no_memory_refusal AlreadyPrepared = false
-is_no_memory_refusal TableFull = false
-is_no_memory_refusal (Unfunded have place) = false
-is_no_memory_refusal (VaultLimit vault) = false
-is_no_memory_refusal (SupplyLimit supply) = false
-is_no_memory_refusal HistoryFull = false
+is_no_memory_refusal refusal = false
 
 -- whether a reply says that memory was wanting in the exchange
 abbrev pub is_no_memory : Reply → Bool
 is_no_memory (Refused refusal rests) = is_no_memory_refusal refusal
-is_no_memory (Done lsn) = false
-is_no_memory (Prepared condition lsn) = false
-is_no_memory (Balanced amount rests) = false
-is_no_memory (Vaulted rests vault) = false
-is_no_memory (Bad fault) = false
+is_no_memory reply = false
 
 -- A question is answered, and this is the history afterwards: by the rules; or for want of memory, and nothing changes.
 abbrev pub Answered : Question → Reply → List Act → Type 0

@@ -1,47 +1,43 @@
-ghost use Rattle.std.specs.Prelude.{◌≡◌, ℕ, ◌+◌, ◌<◌, ◌≤◌, [], ◌∷◌, ◌++◌, true, false, None, Some, length, nat_le, option_map, All, OnOk, OnErr, IfOk};
-ghost use Rattle.command_words.specs.declared.refusal.Refusal.TheVariants.{SupplyLimit, HistoryFull};
+ghost use Rattle.std.specs.Prelude.{◌≡◌, ℕ, ◌<◌, ◌≤◌, [], ◌∷◌, ◌++◌, true, false, None, Some, length, nat_le, option_map, All, OnOk, OnErr, IfOk};
 ghost use Rattle.std.specs.Result.{result_err};
-ghost use Rattle.command_words.specs.declared.act.TheConstants.{MAX_HISTORY};
-ghost use Rattle.condition_sets.specs.declared.amount.TheConstants.{MAX_AMOUNT};
-ghost use Rattle.condition_sets.specs.declared.slot_count.TheConstants.{MIN_SLOTS, MAX_SLOTS};
-ghost use Rattle.command_words.specs.declared.command.TheConstants.{MAX_SETS};
-ghost use Rattle.command_words.specs.Command.{makes_act, in_ranges, is_built};
-ghost use Rattle.settle_core.specs.Book.{conditions, prepared_by};
-ghost use Rattle.settle_core.specs.Ledger.{amount_at, supply_at};
-ghost use Rattle.command_words.specs.Keys.{Collection};
-ghost use Rattle.settle_core.specs.Legal.{IsLegal};
-ghost use Rattle.std.specs.List.{list_any};
-ghost use Rattle.settle_core.specs.Postings.{vault, balance, supply};
-ghost use Rattle.settle_core.specs.Askable.{IsAskable};
-ghost use Rattle.settle_core.specs.Reply.{act_of, accepted_reply, reply_to};
+ghost use Rattle.collection_keys.specs.Collections.{Pairs};
+ghost use Rattle.command_words.specs.Command.{makes_act, in_ranges, may_be_act};
 ghost use Rattle.command_words.specs.Reply.{IsSound};
+ghost use Rattle.command_words.specs.declared.act.TheConstants.{MAX_HISTORY};
+ghost use Rattle.command_words.specs.declared.refusal.Refusal.TheVariants.{SupplyLimit, EntriesLimit, HistoryFull};
+ghost use Rattle.ledger_book.specs.Ledger.{amount_at, supply_at};
+ghost use Rattle.ledger_book.specs.Postings.{IsFunded};
+ghost use Rattle.ledger_book.specs.Staging.{oversupplied};
+ghost use Rattle.settle_core.specs.Book.{conditions, postings};
+ghost use Rattle.settle_core.specs.Built.{is_built};
 ghost use Rattle.settle_core.specs.Exchange.{ExchangeView, asked, IsSame, AreChangesOf, IsPlanFor};
-ghost use Rattle.settle_core.specs.Staging.{oversupplied};
-ghost use Rattle.settle_core.specs.Verdict.{verdict, where_, first_some, prepares_again, is_above_table, AnsweredBy};
+ghost use Rattle.settle_core.specs.Legal.{IsAccepted, IsLegal, IsPlannable};
+ghost use Rattle.settle_core.specs.Postings.{vault, balance, supply};
+ghost use Rattle.settle_core.specs.Refusals.{where_, is_above_entries};
+ghost use Rattle.settle_core.specs.Reply.{act_of, accepted_reply, reply_to};
+ghost use Rattle.settle_core.specs.Verdict.{verdict, first_some, AnsweredBy};
 
+use crate::commands::prepare_for;
 use crate::condition_table::Conditions;
-use crate::ledger_book::{Ledger, LedgerFull, Staged};
 use crate::limits::Limits;
 use crate::plan::Plan;
-use crate::split_merge::{PlanFault, plan_split};
 use command_words::{Act, Acts, Command, Refusal, Reply};
-use condition_sets::{
-    AccountId, Bits, ConditionId, EXCHANGE, ListOf, MAX_AMOUNT, NoMemory, OPERATOR, Pairs,
-    SlotCount,
-};
+use condition_sets::{AccountId, ListOf, NoMemory};
+use ledger_book::{Ledger, LedgerFull, Staged};
 use std::alloc::Global;
 use std::marker::Model;
 
 /// An exchange: the history of its acts, and what it keeps of them so that the next answer is quick.
 ///
-/// Contracts see its limits, its history, and for how many acts and postings more it has room without memory.
+/// Contracts see its limits, its history, and what it has room for without memory: so many acts more, and changes for which
+/// its ledger is ready.
 #[derive(Drop)]
 pub struct Exchange {
-    alloc: Global,
-    limits: Limits,
-    conditions: Conditions,
-    ledger: Ledger,
-    history: Vec<Act>,
+    pub(crate) alloc: Global,
+    pub(crate) limits: Limits,
+    pub(crate) conditions: Conditions,
+    pub(crate) ledger: Ledger,
+    pub(crate) history: Vec<Act>,
 }
 
 impl Model for Exchange {
@@ -52,7 +48,7 @@ impl Model for Exchange {
 
     ghost use Rattle.settle_core.specs.Kept.{IsKept};
 
-    ghost view = { λ e. record { limits = e.limits; history = e.history.items; room = min (vec_capacity e.history - vec_len e.history) e.conditions.room; places = e.ledger.room } };
+    ghost view = { λ e. record { limits = e.limits; history = e.history.items; room = min (vec_capacity e.history - vec_len e.history) e.conditions.room; ledger = e.ledger } };
 
     ghost invariant = { λ e. IsKept e.limits e.conditions e.ledger e.history.items };
 }
@@ -69,16 +65,14 @@ impl Exchange {
             alloc,
             limits,
             conditions: Conditions::new(alloc, limits.conditions())?,
-            ledger: Ledger::new(alloc),
+            ledger: Ledger::new(alloc, limits.entries())?,
             history: Vec::new(alloc),
         })
     }
 
     /// Plans a command that makes an act, and takes the memory that the act will need. The history is as it was.
     pub fn plan(&mut self, account: AccountId, command: &Command, now: u64) -> Result<Plan, Refusal>
-        requires act { makes_act command.now ≡ true }
-        requires ranges { in_ranges command.now ≡ true }
-        requires built { is_built command.now ≡ true }
+        requires { IsPlannable command.now }
 
         ensures verdict { AnsweredBy (verdict (asked self.old account command.now now)) result }
         ensures act { IfOk result (λ plan. plan.act ≡ act_of (asked self.old account command.now now)) }
@@ -86,7 +80,7 @@ impl Exchange {
         ensures plan { IfOk result (λ plan. IsPlanFor self.new plan) }
         ensures same { IsSame self.old self.new }
     {
-        let changes = self.changes_of(account, command, now)?;
+        let changes = self.accepted_changes(account, command, now)?;
         let act = Act {
             moment: now,
             account,
@@ -123,9 +117,7 @@ impl Exchange {
         command: &Command,
         now: u64,
     ) -> Result<Reply, Refusal>
-        requires act { makes_act command.now ≡ true }
-        requires ranges { in_ranges command.now ≡ true }
-        requires built { is_built command.now ≡ true }
+        requires { IsPlannable command.now }
 
         ensures verdict { AnsweredBy (verdict (asked self.old account command.now now)) result }
         ensures reply { IfOk result (λ reply. reply ≡ reply_to (asked self.old account command.now now)) }
@@ -139,36 +131,19 @@ impl Exchange {
     }
 
     /// Answers a reading, at any moment alike. It takes no memory.
-    #[tactic(auto, unfolding(crate::specs::Verdict::verdict))]
     pub fn read(&self, account: AccountId, command: &Command) -> Result<Reply, Refusal>
         requires reading { makes_act command.now ≡ false }
+        requires ranges { in_ranges command.now ≡ true }
+        requires built { is_built command.now ≡ true }
 
         ensures ok { IfOk result (λ reply. reply ≡ accepted_reply self.now.history command.now) }
         ensures verdict { (now : ℕ) → result_err result ≡ verdict (asked self.now account command.now now) }
         ensures sound { IfOk result IsSound }
     {
         match command {
-            Command::Deposit { .. } => unreachable!(),
-            Command::Prepare { .. } => unreachable!(),
-            Command::Split { .. } => unreachable!(),
-            Command::Balance { of, key } => {
-                if let Some(refusal) = self.refusal_of_balance(account, *of, key, 0) {
-                    return Err(refusal);
-                }
-                Ok(Reply::Balanced {
-                    amount: self.ledger.balance(*of, key),
-                    rests: self.history.len() as u64,
-                })
-            }
-            Command::Vault => {
-                if let Some(refusal) = self.refusal_of_vault(account, 0) {
-                    return Err(refusal);
-                }
-                Ok(Reply::Vaulted {
-                    rests: self.history.len() as u64,
-                    vault: self.ledger.vault(),
-                })
-            }
+            Command::Balance { of, key } => self.read_balance(account, *of, key),
+            Command::Vault => self.read_vault(account),
+            _ => unreachable!(),
         }
     }
 
@@ -176,7 +151,7 @@ impl Exchange {
     pub fn history(&self) -> &[Act]
         ensures value { result.now ≡ self.now.history }
         ensures legal { IsLegal self.now.limits result.now }
-        ensures askable { All IsAskable result.now }
+        ensures acts { All (λ act. may_be_act act.command ≡ true) result.now }
         ensures within { length result.now ≤ MAX_HISTORY }
     {
         self.history.as_slice()
@@ -185,8 +160,8 @@ impl Exchange {
     /// The ledger of the history.
     pub fn ledger(&self) -> &Ledger
         ensures vault { result.now.vault ≡ vault self.now.history }
-        ensures balances { (a : ℕ) (k : Collection) → amount_at result.now a k ≡ balance self.now.history a k }
-        ensures supplies { (k : Collection) → supply_at result.now k ≡ supply self.now.history k }
+        ensures balances { (a : ℕ) (k : Pairs) → amount_at result.now a k ≡ balance self.now.history a k }
+        ensures supplies { (k : Pairs) → supply_at result.now k ≡ supply self.now.history k }
     {
         &self.ledger
     }
@@ -206,147 +181,35 @@ impl Exchange {
         ListOf::of(self.history)
     }
 
-    /// The changes that a command makes, or its refusal, the one with the lowest number first.
-    fn changes_of(&self, account: AccountId, command: &Command, now: u64) -> Result<Staged, Refusal>
-        requires act { makes_act command.now ≡ true }
-        requires ranges { in_ranges command.now ≡ true }
-        requires built { is_built command.now ≡ true }
+    /// The changes of a command that is accepted as it stands, or its refusal.
+    fn accepted_changes(
+        &self,
+        account: AccountId,
+        command: &Command,
+        now: u64,
+    ) -> Result<Staged, Refusal>
+        requires { IsPlannable command.now }
 
         ensures verdict { AnsweredBy (verdict (asked self.now account command.now now)) result }
         ensures changes { IfOk result (λ changes. AreChangesOf self.now.history account command.now changes) }
+        ensures accepted { IfOk result (λ _. IsAccepted self.now.limits self.now.history (act_of (asked self.now account command.now now))) }
     {
-        match command {
-            Command::Deposit { to, amount } => self.changes_of_deposit(account, *to, *amount, now),
-            Command::Prepare {
-                oracle,
-                question,
-                slots,
-            } => self.changes_of_prepare(account, *oracle, *question, *slots, now),
-            Command::Split {
-                parent,
-                condition,
-                sets,
-                amount,
-            } => self.changes_of_split(account, parent, *condition, sets, *amount, now),
-            Command::Balance { .. } => unreachable!(),
-            Command::Vault => unreachable!(),
-        }
+        self.changes_of(account, command, now)
     }
 
-    #[tactic(auto, unfolding(crate::specs::Verdict::verdict))]
-    fn changes_of_deposit(
-        &self,
-        account: AccountId,
-        to: AccountId,
-        amount: u64,
-        now: u64,
-    ) -> Result<Staged, Refusal>
-        requires { amount ≤ MAX_AMOUNT }
+    /// The refusal of changes that are staged: a supply above its limit, too many balances, or a full history.
+    pub(crate) fn refusal_at_last(&self, staged: &Staged) -> Option<Refusal>
+        requires some { 0 < length staged.now.postings }
+        requires funded { IsFunded (balance self.now.history) staged.now.postings }
 
-        ensures verdict { AnsweredBy (verdict (asked self.now account (Command.Deposit to amount) now)) result }
-        ensures changes { IfOk result (λ changes. AreChangesOf self.now.history account (Command.Deposit to amount) changes) }
+        ensures { result ≡ first_some (option_map SupplyLimit (oversupplied (supply self.now.history) staged.now.postings)
+            ∷ where_ (is_above_entries self.now.limits.entries (postings self.now.history) staged.now.postings) EntriesLimit
+            ∷ where_ (nat_le self.now.limits.history (length self.now.history)) HistoryFull ∷ []) }
     {
-        if account.get() != OPERATOR || to.get() == EXCHANGE {
-            return Err(Refusal::NotAllowed);
-        }
-        let vault = self.ledger.vault();
-        if amount > MAX_AMOUNT - vault {
-            return Err(Refusal::VaultLimit { vault });
-        }
-        let mut staged = Staged::new(self.alloc)?;
-        staged.credit(to, &Pairs::new(self.alloc), amount)?;
-        staged.change_vault(i128::from(amount));
-        if let Some(refusal) = self.refusal_at_last(&staged) {
-            return Err(refusal);
-        }
-        Ok(staged)
-    }
-
-    #[tactic(auto, unfolding(crate::specs::Verdict::verdict))]
-    fn changes_of_prepare(
-        &self,
-        account: AccountId,
-        oracle: AccountId,
-        question: u64,
-        slots: u8,
-        now: u64,
-    ) -> Result<Staged, Refusal>
-        requires at_least { MIN_SLOTS ≤ slots }
-        requires at_most { slots ≤ MAX_SLOTS }
-
-        ensures verdict { AnsweredBy (verdict (asked self.now account (Command.Prepare oracle question slots) now)) result }
-        ensures changes { IfOk result (λ changes. AreChangesOf self.now.history account (Command.Prepare oracle question slots) changes) }
-    {
-        if account.get() == EXCHANGE || oracle.get() == EXCHANGE {
-            return Err(Refusal::NotAllowed);
-        }
-        let Some(slots) = SlotCount::new(slots) else {
-            unreachable!()
-        };
-        if self.conditions.find(oracle, question, slots).is_some() {
-            return Err(Refusal::AlreadyPrepared);
-        }
-        if self.conditions.len() >= self.limits.conditions() {
-            return Err(Refusal::TableFull);
-        }
-        if self.is_full() {
-            return Err(Refusal::HistoryFull);
-        }
-        Ok(Staged::new(self.alloc)?)
-    }
-
-    #[tactic(auto, unfolding(crate::specs::Verdict::verdict))]
-    fn changes_of_split(
-        &self,
-        account: AccountId,
-        parent: &Pairs,
-        condition: ConditionId,
-        sets: &Bits,
-        amount: u64,
-        now: u64,
-    ) -> Result<Staged, Refusal>
-        requires sets { length sets.now ≤ MAX_SETS }
-        requires amount { amount ≤ MAX_AMOUNT }
-
-        ensures verdict { AnsweredBy (verdict (asked self.now account (Command.Split parent.now condition sets.now amount) now)) result }
-        ensures changes { IfOk result (λ changes. AreChangesOf self.now.history account (Command.Split parent.now condition sets.now amount) changes) }
-    {
-        if account.get() == EXCHANGE {
-            return Err(Refusal::NotAllowed);
-        }
-        let prepared = self.conditions.len();
-        if names_none(prepared, parent.as_slice()) || prepared <= condition.get() {
-            return Err(Refusal::NoCondition);
-        }
-        let mut staged = Staged::new(self.alloc)?;
-        let planned = plan_split(
-            self.alloc,
-            &mut staged,
-            &self.ledger,
-            account,
-            condition,
-            sets.as_slice(),
-            amount,
-        );
-        match planned {
+        match self.ledger.admits(staged) {
             Ok(()) => {}
-            Err(PlanFault::Short { have, place }) => {
-                return Err(Refusal::Unfunded { have, place });
-            }
-            Err(PlanFault::Memory) => return Err(Refusal::Memory),
-        }
-        if let Some(refusal) = self.refusal_at_last(&staged) {
-            return Err(refusal);
-        }
-        Ok(staged)
-    }
-
-    /// The refusal of changes that are staged: a supply above its limit, or a full history.
-    fn refusal_at_last(&self, staged: &Staged) -> Option<Refusal>
-        ensures { result ≡ first_some (option_map SupplyLimit (oversupplied (supply self.now.history) staged.now.postings) ∷ where_ (nat_le self.now.limits.history (length self.now.history)) HistoryFull ∷ []) }
-    {
-        if let Err(LedgerFull::Supply { supply }) = self.ledger.admits(staged) {
-            return Some(Refusal::SupplyLimit { supply });
+            Err(LedgerFull::Supply { supply }) => return Some(Refusal::SupplyLimit { supply }),
+            Err(LedgerFull::Entries) => return Some(Refusal::EntriesLimit),
         }
         if self.is_full() {
             return Some(Refusal::HistoryFull);
@@ -354,94 +217,10 @@ impl Exchange {
         None
     }
 
-    #[tactic(auto, unfolding(crate::specs::Verdict::verdict))]
-    fn refusal_of_balance(
-        &self,
-        account: AccountId,
-        of: AccountId,
-        key: &Pairs,
-        now: u64,
-    ) -> Option<Refusal>
-        ensures { result ≡ verdict (asked self.now account (Command.Balance of key.now) now) }
-    {
-        if account.get() == EXCHANGE {
-            return Some(Refusal::NotAllowed);
-        }
-        if names_none(self.conditions.len(), key.as_slice()) {
-            return Some(Refusal::NoCondition);
-        }
-        None
-    }
-
-    #[tactic(auto, unfolding(crate::specs::Verdict::verdict))]
-    fn refusal_of_vault(&self, account: AccountId, now: u64) -> Option<Refusal>
-        ensures { result ≡ verdict (asked self.now account Command.Vault now) }
-    {
-        if account.get() == EXCHANGE {
-            return Some(Refusal::NotAllowed);
-        }
-        None
-    }
-
     /// Whether the history has as many acts as its limit.
-    fn is_full(&self) -> bool
+    pub(crate) fn is_full(&self) -> bool
         ensures { result ≡ nat_le self.now.limits.history (length self.now.history) }
     {
         self.history.len() >= self.limits.history() as usize
-    }
-
-    /// The reply to a command that is accepted.
-    fn accepted_reply(&self, command: &Command) -> Reply
-        requires act { makes_act command.now ≡ true }
-        requires fits { is_above_table self.now.limits.conditions (conditions self.now.history) command.now ≡ false }
-        ensures { result ≡ accepted_reply self.now.history command.now }
-    {
-        let lsn = self.history.len() as u64;
-        match command {
-            Command::Deposit { .. } => Reply::Done { lsn },
-            Command::Prepare { .. } => match ConditionId::new(self.conditions.len()) {
-                Some(condition) => Reply::Prepared { condition, lsn },
-                None => unreachable!(),
-            },
-            Command::Split { .. } => Reply::Done { lsn },
-            Command::Balance { .. } => unreachable!(),
-            Command::Vault => unreachable!(),
-        }
-    }
-}
-
-/// Whether a pair of the key names a condition past the last.
-fn names_none(prepared: u16, key: &[(u16, u32)]) -> bool
-    ensures { result ≡ list_any (λ p. nat_le prepared p.0) key.now }
-{
-    key.iter().any(|pair| prepared <= pair.0)
-}
-
-/// Prepares the condition that an accepted command prepares.
-fn prepare_for(conditions: &mut Conditions, command: &Command)
-    requires ranges { in_ranges command.now ≡ true }
-    requires new { prepares_again conditions.old.facts command.now ≡ false }
-    requires within { is_above_table conditions.old.limit conditions.old.facts command.now ≡ false }
-    requires room { 0 < conditions.old.room }
-
-    ensures conditions { conditions.new.facts ≡ conditions.old.facts ++ prepared_by command.now }
-    ensures limit { conditions.new.limit ≡ conditions.old.limit }
-    ensures room { conditions.old.room ≤ conditions.new.room + 1 }
-{
-    match command {
-        Command::Prepare {
-            oracle,
-            question,
-            slots,
-        } => match SlotCount::new(*slots) {
-            Some(slots) => {
-                let _condition = conditions.prepare(*oracle, *question, slots);
-            }
-            None => unreachable!(),
-        },
-        Command::Deposit { .. } => {}
-        Command::Split { .. } => {}
-        Command::Balance { .. } => {}
-        Command::Vault => {}
     }
 }

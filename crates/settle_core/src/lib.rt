@@ -5,19 +5,19 @@
 //! totals that it keeps are told only as what the history gives.
 #![tactic(auto)]
 
+mod commands;
 mod condition_table;
 mod exchange;
+mod forms;
+mod keys;
 pub mod laws;
-mod ledger_book;
 mod limits;
 mod plan;
 mod replay;
-mod split_merge;
 
 pub use condition_table::{Conditions, Facts};
 pub use exchange::Exchange;
-pub use ledger_book::{DebitFault, Holding, Ledger, LedgerFull, PostFault, Posting, Staged};
+pub use forms::built;
 pub use limits::Limits;
 pub use plan::Plan;
 pub use replay::ReplayFault;
-pub use split_merge::{PlanFault, plan_split};

@@ -2,6 +2,7 @@ ghost use Rattle.std.specs.Prelude.{◌≡◌, ◌↔◌, ◌+◌, ◌≤◌, Is
 ghost use Rattle.condition_sets.specs.declared.names.TheConstants.{MAX_CONDITION};
 
 use command_words::MAX_HISTORY;
+use ledger_book::MAX_ENTRIES;
 use std::marker::Model;
 
 /// The most conditions that are prepared.
@@ -12,9 +13,6 @@ const STANDARD_EVENTS: u16 = 512;
 
 /// The most open orders of one market.
 const STANDARD_ORDERS: u32 = 10_000;
-
-/// The most balances that aren't 0.
-const STANDARD_ENTRIES: u32 = 4_000_000;
 
 /// How many conditions, events, open orders of a market, nonzero balances and acts an exchange holds at the most.
 #[derive(Clone, Copy, Debug, PartialEq, Eq)]
@@ -51,7 +49,7 @@ impl Limits {
             conditions: STANDARD_CONDITIONS,
             events: STANDARD_EVENTS,
             orders: STANDARD_ORDERS,
-            entries: STANDARD_ENTRIES,
+            entries: MAX_ENTRIES,
             history: MAX_HISTORY,
         }
     }
@@ -74,7 +72,7 @@ impl Limits {
             && orders >= 1
             && orders <= STANDARD_ORDERS
             && entries >= 1
-            && entries <= STANDARD_ENTRIES
+            && entries <= MAX_ENTRIES
             && history >= 1
             && history <= MAX_HISTORY;
         if fits {
@@ -96,6 +94,14 @@ impl Limits {
         ensures within { result ≤ MAX_CONDITION + 1 }
     {
         self.conditions
+    }
+
+    /// The most balances that are other than 0.
+    pub fn entries(&self) -> u32
+        ensures value { result ≡ self.now.entries }
+        ensures within { result ≤ MAX_ENTRIES }
+    {
+        self.entries
     }
 
     /// The most acts of a history.

@@ -1,7 +1,7 @@
 ghost use Rattle.std.specs.Prelude.{◌≡◌, None, Some, IsSome};
 
-use crate::ledger_book::Staged;
 use command_words::{Act, Reply};
+use ledger_book::Staged;
 use std::marker::Model;
 
 /// An accepted command that is ready to become the next act, with the reply to it.

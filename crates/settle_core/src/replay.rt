@@ -1,21 +1,23 @@
-ghost use Rattle.std.specs.Prelude.{◌≡◌, ◌≤◌, [], ◌∷◌, ◌++◌, length, All, IfOk, IfErr, OnOk, OnErr};
+ghost use Rattle.std.specs.Prelude.{◌≡◌, ◌≤◌, [], ◌∷◌, ◌++◌, length, true, All, IfOk, IfErr, OnOk, OnErr};
 ghost use Rattle.command_words.specs.declared.act.TheConstants.{MAX_HISTORY};
 ghost use Rattle.settle_core.specs.Legal.{IsAccepted, IsLegal};
 ghost use Rattle.settle_core.specs.Replay.{IsStopped, IsNoHistory};
-ghost use Rattle.settle_core.specs.Askable.{IsAskable};
+ghost use Rattle.command_words.specs.Command.{may_be_act};
 ghost use Rattle.settle_core.specs.Exchange.{IsSame};
-ghost use Rattle.settle_core.specs.declared.replay.ReplayFault.TheVariants.{Memory};
+ghost use Rattle.settle_core.specs.declared.replay.ReplayFault.TheVariants.{Illegal, Memory};
 
 use crate::exchange::Exchange;
+use crate::forms::built;
 use crate::limits::Limits;
-use command_words::{Act, Refusal};
+use command_words::{Act, LineFault, Refusal};
 use condition_sets::NoMemory;
 use std::alloc::Global;
 
 /// Why acts are no history.
 #[derive(Clone, Copy, Debug, PartialEq, Eq)]
 pub enum ReplayFault {
-    /// Act `lsn`, counted from 0, is refused over those before it, with the refusal of number `code`.
+    /// Act `lsn`, counted from 0, is refused over those before it, with the refusal of number `code`; its number is that
+    /// of [`LineFault::NotCommand`] where it is of a form that isn't carried out so far.
     Illegal { lsn: u64, code: u8 },
     /// Memory was wanting. It may be answered at any time.
     Memory,
@@ -24,7 +26,7 @@ pub enum ReplayFault {
 impl Exchange {
     /// The exchange whose history these acts are, each carried out over those before it at its own moment.
     pub fn replay(alloc: Global, limits: Limits, acts: &[Act]) -> Result<Exchange, ReplayFault>
-        requires { All IsAskable acts.now }
+        requires { All (λ act. may_be_act act.command ≡ true) acts.now }
 
         ensures limits { IfOk result (λ exchange. exchange.limits ≡ limits) }
         ensures history { IfOk result (λ exchange. exchange.history ≡ acts.now) }
@@ -46,7 +48,7 @@ impl Exchange {
 
     /// Carries an act out again, at its own moment, as the next of the history. An `Err` leaves the exchange as it was.
     pub fn redo(&mut self, act: &Act) -> Result<(), ReplayFault>
-        requires { IsAskable act.now }
+        requires { may_be_act act.now.command ≡ true }
 
         ensures accepted { OnOk result (IsAccepted self.old.limits self.old.history act.now) }
         ensures history { OnOk result (self.new.history ≡ self.old.history ++ act.now ∷ []) }
@@ -54,13 +56,23 @@ impl Exchange {
         ensures same { OnErr result (IsSame self.old self.new) }
         ensures limits { self.new.limits ≡ self.old.limits }
     {
+        if !built(&act.command) {
+            return Err(self.illegal(LineFault::NotCommand.code()));
+        }
         match self.submit(act.account, &act.command, act.moment) {
             Ok(_) => Ok(()),
             Err(Refusal::Memory) => Err(ReplayFault::Memory),
-            Err(refusal) => Err(ReplayFault::Illegal {
-                lsn: self.history().len() as u64,
-                code: refusal.code(),
-            }),
+            Err(refusal) => Err(self.illegal(refusal.code())),
+        }
+    }
+
+    /// The next act is refused with this number.
+    fn illegal(&self, code: u8) -> ReplayFault
+        ensures { result ≡ Illegal (length self.now.history) code }
+    {
+        ReplayFault::Illegal {
+            lsn: self.history().len() as u64,
+            code,
         }
     }
 }

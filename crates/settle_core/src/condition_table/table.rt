@@ -65,6 +65,14 @@ impl Conditions {
         self.facts.get(usize::from(condition.get())).copied()
     }
 
+    /// The same of a number, which may be none of a condition.
+    pub(crate) fn at(&self, number: u16) -> Option<Facts>
+        ensures value { result ≡ slice_get self.now.facts number }
+        ensures within { IfSome result (λ _. number ≤ MAX_CONDITION) }
+    {
+        self.facts.get(usize::from(number)).copied()
+    }
+
     /// How many conditions are prepared. It takes no memory.
     pub fn len(&self) -> u16
         ensures value { result ≡ length self.now.facts }

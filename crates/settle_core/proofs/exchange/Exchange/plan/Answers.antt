@@ -2,7 +2,7 @@ use Rattle.std.proofs.Common.{◌≡◌, List, false, sym, subst}
 use Rattle.command_words.specs.declared.act.Act.{Act}
 use Rattle.settle_core.specs.Book.{conditions}
 use Rattle.settle_core.specs.Exchange.{ExchangeView, asked}
-use Rattle.settle_core.specs.Verdict.{is_above_table}
+use Rattle.settle_core.specs.Refusals.{is_above_table}
 use Rattle.settle_core.proofs.KeptLemmas.{kept-same, hold-same}
 use Rattle.settle_core.proofs.Verdicts.{accepted-table}
 use Rattle.settle_core.proofs.exchange.Exchange.plan.Goals as goal

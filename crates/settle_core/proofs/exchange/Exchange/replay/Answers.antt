@@ -1,9 +1,10 @@
-use Rattle.std.proofs.Common.{◌≡◌, ℕ, ◌<◌, List, length, take, get_or, Some, refl, sym, ◌∙◌, ap, subst, arith, length-take}
+use Rattle.std.proofs.Common.{◌≡◌, ℕ, ◌<◌, List, length, take, get_or, Some, None, refl, sym, ◌∙◌, ap, subst, arith, length-take}
 use Rattle.std.proofs.lemmas.Option.{slice_get-get_or}
 use Rattle.command_words.specs.declared.act.Act.{Act}
 use Rattle.settle_core.specs.Bounds.{Bounds}
 use Rattle.settle_core.specs.Legal.{IsLegal}
-use Rattle.settle_core.specs.Replay.{IsStopped, IsFirstRefused, IsNoHistory}
+use Rattle.settle_core.specs.Replay.{refused_code, IsStopped, IsFirstRefused, IsNoHistory}
+use Rattle.settle_core.specs.Verdict.{question_of}
 use Rattle.settle_core.specs.Exchange.{ExchangeView, IsSame}
 use Rattle.settle_core.specs.declared.replay.ReplayFault.{ReplayFault}
 use Rattle.settle_core.specs.declared.replay.ReplayFault.TheVariants.{Illegal, Memory}
@@ -24,7 +25,11 @@ stopped limits acts act index Memory inside is legal stop = tt
 
 -- no act of a legal history is refused
 never : (limits : Bounds) (acts : List Act) (fault : ReplayFault) → IsNoHistory limits acts fault → IsLegal limits acts → fault ≡ Memory
-never limits acts (Illegal lsn code) first legal = let both = sym (legal lsn first.act first.placed).accepted ∙ first.refused.refused in cc
+never limits acts (Illegal lsn code) first legal =
+    let accepted = legal lsn first.act first.placed in
+    let none : refused_code (question_of limits (take lsn acts) first.act) ≡ None = rw (accepted.is_built, accepted.accepted) refl in
+    let both = sym none ∙ first.refused in
+    cc
 never limits acts Memory first legal = refl
 
 same-legal : (old new : ExchangeView) → IsSame old new → IsLegal new.limits new.history → IsLegal old.limits old.history

@@ -1,0 +1,151 @@
+-- What an accepted act posts takes what is there.
+use Rattle.std.proofs.Common.{◌≡◌, ℕ, zero, suc, ◌+◌, ◌<◌, ◌≤◌, Bool, true, false, cond, List, [], ◌∷◌, ◌++◌, length, take, get_or, All, Option, Some, None, refl, ap, subst, ◌∙◌, arith, add-one, inl, inr}
+use Rattle.std.specs.Prelude.{◌==◌, map, nat_lt, option_map}
+use Rattle.std.proofs.lemmas.Bool.{cases_Bool, eqb-true, ltb-false}
+use Rattle.std.proofs.lemmas.List.{get_or_default, map_more, map_push, take_all}
+use Rattle.std.proofs.lemmas.List.Elements.{All-get_or, All-nil, All-cons, All-weaker}
+use Rattle.std.proofs.lemmas.List.Sums.{sum_by-append, sum_by-cons, sum_by_push}
+use Rattle.collection_keys.proofs.Joining.{part-joined_same}
+use Rattle.collection_keys.proofs.Sameness.{same_collection_Decides}
+use Rattle.collection_keys.specs.Collections.{Pairs, joined, root}
+use Rattle.collection_keys.specs.Comparing.{same_collection}
+use Rattle.command_words.specs.declared.act.Act.{Act}
+use Rattle.command_words.specs.declared.command.Command.{Command}
+use Rattle.command_words.specs.declared.command.Command.TheVariants.{Deposit, Split, Merge}
+use Rattle.condition_sets.specs.Sets.{IsProper, AreApart}
+use Rattle.ledger_book.specs.Planning.{first_short}
+use Rattle.ledger_book.specs.Postings.{IsFunded, credit, debit, debits, taken_from_account}
+use Rattle.ledger_book.specs.declared.posting.Posting.{Posting}
+use Rattle.split_merge.proofs.Apart.{same_set, untaken_at}
+use Rattle.split_merge.specs.Splitting.{merge_postings, parts_of, split_postings}
+use Rattle.settle_core.specs.Book.{book, conditions, postings_of}
+use Rattle.settle_core.specs.Bounds.{Bounds}
+use Rattle.settle_core.specs.Keys.{whole_in}
+use Rattle.settle_core.specs.Legal.{IsAccepted}
+use Rattle.settle_core.specs.Postings.{balance}
+use Rattle.settle_core.specs.Refusals.{Question}
+use Rattle.settle_core.specs.Verdict.{verdict}
+use Rattle.settle_core.specs.declared.condition_table.facts.Facts.{Facts}
+use Rattle.settle_core.proofs.Partitions.{IsPartition, accepted-merge}
+use Rattle.settle_core.proofs.Verdicts.{accepted-funds}
+
+-- ---- what is there where nothing is short
+
+-- where a list has no short place, the first isn't short and the rest has none
+none-short : (short : Bool) (first : ℕ × ℕ) (g : ℕ × ℕ → ℕ × ℕ) (rest : Option (ℕ × ℕ)) → cond short (Some first) (option_map g rest) ≡ None → (short ≡ false) × (rest ≡ None)
+none-short true first g rest none = cc
+none-short false first g None none = (refl, refl)
+none-short false first g (Some x) none = cc
+
+-- of each collection that a set gives as much as the amount is held
+enough : (held : Pairs → ℕ) (amount : ℕ) (f : ℕ → Pairs) (sets : List ℕ) → first_short held amount (map f sets) ≡ None → All (λ set. amount ≤ held (f set)) sets
+enough held amount f [] none = All-nil (λ (set : ℕ). amount ≤ held (f set))
+enough held amount f (x ∷ xs) none =
+    let parts = none-short (nat_lt (held (f x)) amount) (0, held (f x)) (λ short. (suc short.0, short.1)) (first_short held amount (map f xs)) none in
+    All-cons (λ (set : ℕ). amount ≤ held (f set)) x xs (ltb-false _ _ parts.0) (enough held amount f xs parts.1)
+
+-- ---- what is taken position by position
+
+-- of another position a debit takes nothing
+not_here : (b c : Bool) (amount : ℕ) → (b ≡ true → c ≡ true → ⊥) → cond b (cond c amount 0) 0 ≡ 0
+not_here true true amount other = absurd (other refl refl)
+not_here true false amount other = refl
+not_here false c amount other = refl
+
+-- an amount that is held of a position is taken of it, of which nothing was taken before
+one-more : (held taken : ℕ → Pairs → ℕ) (a amount : ℕ) (j : Pairs) (b : ℕ) (k : Pairs) → amount ≤ held a j → taken a j ≡ 0 → taken b k ≤ held b k
+    → taken b k + taken_from_account b k (debit a j amount) ≤ held b k
+one-more held taken a amount j b k there untaken so_far =
+    elim (cases_Bool (a == b)) [
+      | inl own ↦ elim (cases_Bool (same_collection j k)) [
+        | inl same ↦
+            let account : a ≡ b = eqb-true a b own in
+            let collection : j ≡ k = (same_collection_Decides j k).0 same in
+            let holds : held a j ≡ held b k = λ i. held (account i) (collection i) in
+            let takes : taken a j ≡ taken b k = λ i. taken (account i) (collection i) in
+            let all : taken_from_account b k (debit a j amount) ≡ amount = rw (own, same) refl in
+            omega (arith, there, untaken, holds, takes, all)
+        | inr other ↦
+            let none : taken_from_account b k (debit a j amount) ≡ 0 = not_here (a == b) (same_collection j k) amount (λ yes same. cc) in
+            omega (arith, none, so_far)
+      ]
+      | inr other ↦
+          let none : taken_from_account b k (debit a j amount) ≡ 0 = not_here (a == b) (same_collection j k) amount (λ yes same. cc) in
+          omega (arith, none, so_far)
+    ]
+
+-- credits take nothing
+untaken-credits : (a amount : ℕ) (ks : List Pairs) (b : ℕ) (k : Pairs) → debits (map (λ k. credit a k amount) ks) b k ≡ 0
+untaken-credits a amount [] b k = refl
+untaken-credits a amount (x ∷ xs) b k =
+    let none : taken_from_account b k (credit a x amount) ≡ 0 = nothing (a == b) (same_collection x k) in
+    omega (arith, untaken-credits a amount xs b k, none, sum_by-cons (taken_from_account b k) (credit a x amount) (map (λ k. credit a k amount) xs))
+  where
+    nothing : (b c : Bool) → ◌≡◌ {A = ℕ} (cond b (cond c 0 0) 0) 0
+    nothing true true = refl
+    nothing true false = refl
+    nothing false c = refl
+
+-- a split takes its amount of the whole
+split-funded : (held : ℕ → Pairs → ℕ) (a amount : ℕ) (whole : Pairs) (parts : List Pairs) → amount ≤ held a whole → IsFunded held (split_postings a whole parts amount)
+split-funded held a amount whole parts there b k =
+    let first : 0 + taken_from_account b k (debit a whole amount) ≤ held b k = one-more held (λ b k. 0) a amount whole b k there refl (omega arith) in
+    omega (arith, first, untaken-credits a amount parts b k, sum_by-cons (taken_from_account b k) (debit a whole amount) (map (λ k. credit a k amount) parts))
+
+-- the parts of the first sets, which are apart, take what is held of them
+front-funded : (held : ℕ → Pairs → ℕ) (a amount : ℕ) (f : ℕ → Pairs) (sets : List ℕ) → ((i j : ℕ) → same_collection (f i) (f j) ≡ true → i ≡ j) → AreApart sets
+    → All (λ set. 0 < set) sets → All (λ set. amount ≤ held a (f set)) sets → (n : ℕ) → n ≤ length sets → (b : ℕ) (k : Pairs) → debits (map (λ k. debit a k amount) (map f (take n sets))) b k ≤ held b k
+front-funded held a amount f sets same apart some there zero few b k = omega arith
+front-funded held a amount f sets same apart some there (suc n) few b k =
+    let take_of : Pairs → Posting = λ k. debit a k amount in
+    let before = map take_of (map f (take n sets)) in
+    let set = get_or sets n 0 in
+    let longer : map take_of (map f (take (suc n) sets)) ≡ before ++ take_of (f set) ∷ []
+    = ap (map take_of) (rw (← add-one) (map_more f sets n 0 few)) ∙ map_push take_of (map f (take n sets)) (f set) in
+    let sum : debits (map take_of (map f (take (suc n) sets))) b k ≡ debits before b k + taken_from_account b k (take_of (f set))
+    = ap (λ ps. debits ps b k) longer ∙ sum_by_push (taken_from_account b k) before (take_of (f set)) in
+    let positive : 0 < set = All-get_or (λ (x : ℕ). 0 < x) sets n 0 few some in
+    let holds : amount ≤ held a (f set) = All-get_or (λ (x : ℕ). amount ≤ held a (f x)) sets n 0 few there in
+    let untaken : debits before a (f set) ≡ 0 = untaken_at a amount f sets n set same apart few (get_or_default sets n 0 set few) positive in
+    let more : debits before b k + taken_from_account b k (take_of (f set)) ≤ held b k
+    = one-more held (debits before) a amount (f set) b k holds untaken (front-funded held a amount f sets same apart some there n (omega arith) b k) in
+    omega (arith, sum, more)
+
+-- a merge takes its amount of each part
+merge-funded : (held : ℕ → Pairs → ℕ) (prepared : List Facts) (a amount : ℕ) (whole parent : Pairs) (condition : ℕ) (sets : List ℕ) → IsPartition prepared parent condition sets
+    → first_short (held a) amount (parts_of parent condition sets) ≡ None → IsFunded held (merge_postings a whole (parts_of parent condition sets) amount)
+merge-funded held prepared a amount whole parent condition sets is none b k =
+    let f : ℕ → Pairs = λ set. joined parent condition set in
+    let taken = map (λ k. debit a k amount) (map f sets) in
+    let same : (i j : ℕ) → same_collection (f i) (f j) ≡ true → i ≡ j
+    = λ i j yes. same_set parent condition (λ set. part-joined_same parent condition set is.free) i j ((same_collection_Decides (f i) (f j)).0 yes) in
+    let some : All (λ set. 0 < set) sets = All-weaker (IsProper is.facts.slots) (λ (set : ℕ). 0 < set) (λ set proper. proper.nonempty) sets is.proper in
+    let within = front-funded held a amount f sets same is.apart some (enough (held a) amount f sets none) (length sets) (omega arith) b k in
+    let all : debits taken b k ≤ held b k
+    = subst (λ (xs : List ℕ). debits (map (λ k. debit a k amount) (map f xs)) b k ≤ held b k) (take_all (length sets) sets (omega arith)) within in
+    omega (arith, all, sum_by-append (taken_from_account b k) taken (credit a whole amount ∷ []), untaken-credits a amount (whole ∷ []) b k)
+
+-- ---- by cases on the command
+
+-- nothing that is posted takes nothing
+none-posted : (held : ℕ → Pairs → ℕ) → IsFunded held []
+none-posted held b k = omega arith
+
+-- every command that is accepted
+funded-by : (limits : Bounds) (history : List Act) (account moment : ℕ) (command : Command)
+    → verdict (record { limits = limits; history = history; account = account; command = command; moment = moment }) ≡ None
+    → IsFunded (balance history) (postings_of (book history) account command)
+funded-by limits history account moment (Deposit to amount) none = λ b k. omega (arith, untaken-credits to amount (root ∷ []) b k)
+funded-by limits history account moment (Split parent condition sets amount) none =
+    let q : Question = record { limits = limits; history = history; account = account; command = Split parent condition sets amount; moment = moment } in
+    let whole = whole_in (conditions history) parent condition sets in
+    let parts = none-short (nat_lt (balance history account whole) amount) (0, balance history account whole) (λ short. (suc short.0, short.1)) None (accepted-funds q none) in
+    split-funded (balance history) account amount whole (parts_of parent condition sets) (ltb-false _ _ parts.0)
+funded-by limits history account moment (Merge parent condition sets amount) none =
+    let q : Question = record { limits = limits; history = history; account = account; command = Merge parent condition sets amount; moment = moment } in
+    merge-funded (balance history) (conditions history) account amount (whole_in (conditions history) parent condition sets) parent condition sets
+    (accepted-merge limits history account moment parent condition sets amount none) (accepted-funds q none)
+funded-by limits history account moment command none = none-posted (balance history)
+
+pub posts-funded : (limits : Bounds) (history : List Act) (act : Act) → IsAccepted limits history act → IsFunded (balance history) (postings_of (book history) act.account act.command)
+posts-funded limits history act accepted = funded-by limits history act.account act.moment act.command accepted.accepted

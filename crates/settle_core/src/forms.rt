@@ -1,0 +1,21 @@
+//! The commands that are carried out so far.
+
+ghost use Rattle.std.specs.Prelude.{◌≡◌};
+ghost use Rattle.settle_core.specs.Built.{is_built};
+
+use command_words::Command;
+
+/// Whether the exchange carries the command out so far.
+pub fn built(command: &Command) -> bool
+    ensures { result ≡ is_built command.now }
+{
+    match command {
+        Command::Deposit { .. } => true,
+        Command::Prepare { .. } => true,
+        Command::Split { .. } => true,
+        Command::Merge { .. } => true,
+        Command::Balance { .. } => true,
+        Command::Vault => true,
+        _ => false,
+    }
+}
