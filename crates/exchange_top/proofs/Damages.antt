@@ -3,9 +3,7 @@ use Rattle.std.proofs.Common.{◌≡◌, ◌⊎◌, ℕ, List, ◌∷◌, ◌++�
 use Rattle.std.specs.Prelude.{Some}
 use Rattle.act_bytes.specs.Spelling.{Spells}
 use Rattle.act_bytes.proofs.Unique.{one-act}
-use Rattle.command_words.specs.Refusal.{code_of}
 use Rattle.command_words.specs.declared.act.Act.{Act}
-use Rattle.command_words.specs.declared.refusal.Refusal.{Refusal}
 use Rattle.journal_store.specs.Found.{OneFollows}
 use Rattle.journal_store.proofs.Agreeing.{one-follows, before-break, foreign-follows, foreign-breaks}
 use Rattle.journal_store.proofs.FoundLaws.{one-break}
@@ -56,13 +54,11 @@ no_act-illegal limits bytes p n q m code one two (inl same) = one.no_act two.act
 no_act-illegal limits bytes p n q m code one two (inr (inl later)) = no_act-passed limits bytes p n one two.history (inside one.list two.list later.0 one.payload two.history later.1 two.spelled)
 no_act-illegal limits bytes p n q m code one two (inr (inr later)) = illegal-passed limits bytes q m code two one.history one.legal (inside two.list one.list later.0 two.payload one.history later.1 one.spelled)
 
-some-same : (a b : Refusal) → Some a ≡ Some b → a ≡ b
+some-same : (a b : ℕ) → Some a ≡ Some b → a ≡ b
 some-same a b same = cc
 
 one-code : (limits : Bounds) (history : List Act) (act : Act) (code other : ℕ) → IsRefused limits history act code → IsRefused limits history act other → code ≡ other
-one-code limits history act code other one two =
-    let refusal = some-same one.refusal two.refusal (sym one.refused ∙ two.refused) in
-    one.numbered ∙ (ap code_of refusal ∙ sym two.numbered)
+one-code limits history act code other one two = some-same code other (sym one ∙ two)
 
 illegal-by : (limits : Bounds) (bytes : List ℕ) (p n c q m d : ℕ) (one : IsIllegalAt limits bytes p n c) (two : IsIllegalAt limits bytes q m d) → OneFollows one.list one.payload p two.list two.payload q → Illegal p n c ≡ Illegal q m d
 illegal-by limits bytes p n c q m d one two (inl same) =

@@ -1,9 +1,6 @@
 mod Damages
 mod Endings
-mod JsonLists
-mod Members
 mod Recoveries
-mod Requests
 mod Runs
 mod Stores
 mod Turns

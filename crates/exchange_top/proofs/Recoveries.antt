@@ -1,6 +1,6 @@
 -- A journal that is read back, act by act.
 use Rattle.std.proofs.Common.{◌≡◌, ℕ, ◌≤◌, List, [], ◌∷◌, ◌++◌, length, refl, sym, ◌∙◌, ap, subst, inl, inr, arith, length-append}
-use Rattle.std.specs.Prelude.{◌≢◌, Result, Ok, Err, IfOk, IfErr, Some, slice_get}
+use Rattle.std.specs.Prelude.{◌≢◌, Result, Ok, Err, IfOk, IfErr, Some, None, slice_get}
 use Rattle.std.proofs.Math.Seq.{take-append_seam}
 use Rattle.act_bytes.specs.Spelling.{Spells}
 use Rattle.act_bytes.proofs.Unique.{one-act}
@@ -21,7 +21,8 @@ use Rattle.journal_store.specs.declared.outcome.NextFault.{NextFault}
 use Rattle.journal_store.specs.declared.outcome.NextFault.TheVariants as next
 use Rattle.settle_core.specs.Bounds.{Bounds}
 use Rattle.settle_core.specs.Legal.{IsAccepted, IsLegal}
-use Rattle.settle_core.specs.Replay.{IsRefused}
+use Rattle.settle_core.specs.Replay.{refused_code, IsRefused}
+use Rattle.settle_core.specs.Verdict.{question_of}
 use Rattle.exchange_top.specs.Damage.{IsCutAt, IsIllegalAt}
 use Rattle.exchange_top.specs.Holds.{SpellAll, Holds}
 use Rattle.exchange_top.specs.Recovery.{Recovers, Stops, StopsAt, IsRedone, IsExcused, of_begin, of_next}
@@ -74,7 +75,10 @@ accepted-at limits history front more act split legal =
     subst (λ (acts : List Act). IsAccepted limits acts act) (take-append_seam front (act ∷ more)) (whole (length front) act (get-seam front more act))
 
 pub not-both : (limits : Bounds) (history : List Act) (act : Act) (code : ℕ) → IsAccepted limits history act → IsRefused limits history act code → ⊥
-not-both limits history act code accepted refused = let same = sym accepted.accepted ∙ refused.refused in cc
+not-both limits history act code accepted refused =
+    let none : refused_code (question_of limits history act) ≡ None = rw (accepted.is_built, accepted.accepted) refl in
+    let same = sym none ∙ refused in
+    cc
 
 -- A reader has told payloads that spell a history.
 pub record ToldActs {D : Type 0} (drive : D → Drive) (history : List Act) (reader : ReaderView D) : Type 0 where

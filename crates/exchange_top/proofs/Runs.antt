@@ -23,7 +23,7 @@ use Rattle.settle_core.specs.Legal.{IsLegal}
 use Rattle.exchange_top.proofs.Turns.{IsSmallStep, line-step}
 use Rattle.exchange_top.proofs.Stores.{Storing, goes_on-trans, stored-holds, whole-answered, lost-answered, step-longer, step-take, storing-since}
 use Rattle.exchange_top.specs.declared.serving.TheConstants.{MAX_INPUT}
-use Rattle.exchange_top.specs.ReplyText.{text_of}
+use Rattle.wire_json.specs.ReplyText.{text_of}
 use Rattle.exchange_top.specs.Holds.{Holds, HoldsFront, HasStored}
 use Rattle.exchange_top.specs.Run.{Outside, Served, IsRead, AreFirst, AreWhole, IsWritten, HoldsAnswered, lines_of, moments_of, written, texts}
 use Rattle.exchange_top.specs.Talk.{Turn, IsTalk, AnsweredLine}

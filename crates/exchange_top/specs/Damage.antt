@@ -28,7 +28,7 @@ pub record IsNoActAt (limits : Bounds) (bytes : List ℕ) (place lsn : ℕ) : Ty
   pub counted : lsn ≡ length history
   pub no_act : (act : Act) → Spells payload act → ⊥
 
--- Behind them a payload follows that spells an act which the verdict refuses, with the refusal of this number.
+-- Behind them a payload follows that spells an act which is refused, with this number.
 pub record IsIllegalAt (limits : Bounds) (bytes : List ℕ) (place lsn code : ℕ) : Type 0 where
   pub list : List (List ℕ)
   pub payload : List ℕ

@@ -1,12 +1,7 @@
-pub mod CommandText
 pub mod Damage
 pub mod EndText
 pub mod Holds
-pub mod Json
-pub mod Ranged
 pub mod Recovery
-pub mod ReplyText
-pub mod Request
 pub mod Run
 pub mod Talk
 pub mod Words

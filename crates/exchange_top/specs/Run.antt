@@ -16,7 +16,7 @@ use Rattle.exchange_top.specs.declared.ended.Ended.{Ended}
 use Rattle.exchange_top.specs.EndText.{end_text}
 use Rattle.exchange_top.specs.Holds.{Holds, HoldsFront}
 use Rattle.exchange_top.specs.Damage.{IsCutAt, IsNoActAt, IsIllegalAt}
-use Rattle.exchange_top.specs.ReplyText.{text_of}
+use Rattle.wire_json.specs.ReplyText.{text_of}
 use Rattle.exchange_top.specs.Talk.{Turn, IsTalk}
 
 -- What a run has outside itself but its disk: the bytes that its source has left and those that its sink holds, where

@@ -4,14 +4,15 @@ use Rattle.line_link.specs.Lines.{Heard, kept, too_long}
 use Rattle.command_words.specs.declared.act.Act.{Act}
 use Rattle.command_words.specs.declared.refusal.Refusal.{Refusal}
 use Rattle.command_words.specs.declared.refusal.Refusal.TheVariants as refusal
-use Rattle.command_words.specs.declared.reply.LineFault.{LineFault}
-use Rattle.command_words.specs.declared.reply.LineFault.TheVariants.{TooLong, NotJson, NotCommand, Memory}
+use Rattle.command_words.specs.declared.line_fault.LineFault.{LineFault}
+use Rattle.command_words.specs.declared.line_fault.LineFault.TheVariants.{TooLong, NotCommand, Memory}
 use Rattle.command_words.specs.declared.reply.Reply.{Reply}
-use Rattle.command_words.specs.declared.reply.Reply.TheVariants.{Done, Prepared, Balanced, Vaulted, Refused, Bad}
+use Rattle.command_words.specs.declared.reply.Reply.TheVariants.{Refused, Bad}
 use Rattle.settle_core.specs.Bounds.{Bounds}
+use Rattle.settle_core.specs.Built.{is_built}
 use Rattle.settle_core.specs.Reply.{Answered, no_memory}
-use Rattle.exchange_top.specs.declared.wire_json.request.Request.{Request}
-use Rattle.exchange_top.specs.Request.{request}
+use Rattle.wire_json.specs.Request.{request}
+use Rattle.wire_json.specs.declared.request.Request.{Request}
 
 -- one line with its answer: what was heard, the moment that was taken for it, and the reply
 pub record Turn : Type 0 where
@@ -26,29 +27,30 @@ refused_reply refusal rests = Refused refusal rests
 
 abbrev pub is_memory_fault : LineFault → Bool
 is_memory_fault Memory = true
-is_memory_fault TooLong = false
-is_memory_fault NotJson = false
-is_memory_fault NotCommand = false
+is_memory_fault fault = false
 
 -- whether a reply says that memory was wanting as the line was read
 abbrev pub is_unread : Reply → Bool
 is_unread (Bad fault) = is_memory_fault fault
-is_unread (Done lsn) = false
-is_unread (Prepared condition lsn) = false
-is_unread (Balanced amount rests) = false
-is_unread (Vaulted rests vault) = false
-is_unread (Refused refusal rests) = false
+is_unread reply = false
 
--- a request is answered by the rules of the exchange, and a faulty line with its fault, which changes nothing
+-- a line is answered with a fault, which changes nothing
+abbrev pub AnsweredFault : List Act → LineFault → Reply → List Act → Type 0
+AnsweredFault history fault reply after = (reply ≡ Bad fault) × (after ≡ history)
+
+-- A request is answered by the rules of the exchange, or is no command where it isn't carried out so far; a faulty line
+-- is answered with its fault.
 abbrev pub AnsweredRequest : Bounds → List Act → Result Request LineFault → ℕ → Reply → List Act → Type 0
 AnsweredRequest limits history (Ok r) moment reply after =
-    Answered (record { limits = limits; history = history; account = r.account; command = r.command; moment = moment }) reply after
-AnsweredRequest limits history (Err fault) moment reply after = (reply ≡ Bad fault) × (after ≡ history)
+    MatchBool (is_built r.command)
+    (Answered (record { limits = limits; history = history; account = r.account; command = r.command; moment = moment }) reply after)
+    (AnsweredFault history NotCommand reply after)
+AnsweredRequest limits history (Err fault) moment reply after = AnsweredFault history fault reply after
 
 -- A line is answered at a moment over a history, and this is the history afterwards. Want of memory may be answered
 -- to any line that isn't too long, and changes nothing.
 abbrev pub AnsweredLine : Bounds → List Act → Heard → ℕ → Reply → List Act → Type 0
-AnsweredLine limits history too_long moment reply after = (reply ≡ Bad TooLong) × (after ≡ history)
+AnsweredLine limits history too_long moment reply after = AnsweredFault history TooLong reply after
 AnsweredLine limits history (kept text) moment reply after =
     MatchBool (is_unread reply) (after ≡ history) (AnsweredRequest limits history (request text) moment reply after)
 

@@ -8,7 +8,6 @@ ghost use Rattle.exchange_top.specs.Holds.{Holds};
 ghost use Rattle.exchange_top.specs.Recovery.{Stops, IsExcused};
 ghost use Rattle.exchange_top.specs.declared.recovery.OpenFault.{OpenFault};
 ghost use Rattle.exchange_top.specs.declared.serving.TheConstants.{MAX_INPUT};
-ghost use Rattle.exchange_top.specs.declared.wire_json.text.TheConstants.{TEXT_BYTES};
 
 /// Where bytes give no history, they do so for one reason, at one place.
 pub fn one_damage()
@@ -24,6 +23,5 @@ pub fn no_damage()
 
 /// The number of each public constant.
 pub fn constants()
-    ensures input { MAX_INPUT ≡ 2 ^ 40 }
-    ensures text { TEXT_BYTES ≡ 1_024 }
+    ensures { MAX_INPUT ≡ 2 ^ 40 }
 {}

@@ -2,20 +2,18 @@
 //!
 //! [`run`] is the program. Its contract says, for every input, what is read, what each line is answered, what is
 //! stored and written, what a crash at any moment leaves, and why the run ended. [`recover`] reads a journal back.
-//! [`read_line`] and [`write_reply`] are the wire format.
 #![tactic(auto)]
 
 mod answering;
 mod ended;
+mod ending;
 pub mod laws;
 mod program;
 mod recovery;
 mod serving;
 mod storing;
-mod wire_json;
 
 pub use ended::Ended;
 pub use program::run;
 pub use recovery::{OpenFailed, OpenFault, recover};
 pub use serving::{MAX_INPUT, Opened};
-pub use wire_json::{Request, TEXT_BYTES, Text, read_line, write_reply};

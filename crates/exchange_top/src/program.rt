@@ -12,15 +12,16 @@ ghost use Rattle.exchange_top.specs.Words.{is_run};
 ghost use Rattle.exchange_top.specs.declared.serving.TheConstants.{MAX_INPUT};
 
 use crate::ended::Ended;
+use crate::ending::write_end;
 use crate::recovery::{OpenFailed, recover};
 use crate::serving::{Desk, serve};
-use crate::wire_json::{Text, write_end};
 use command_words::Clock;
 use condition_sets::NoMemory;
 use journal_disk::Disk;
 use line_link::{Sink, Source, Status, WriteFault, write_all};
 use settle_core::Limits;
 use std::alloc::Global;
+use wire_json::Text;
 
 /// Runs the program: with the one word `run`, recovers the exchange that the disk's journal holds, then reads lines from
 /// the source to its end and writes the reply to each to the sink. What a line adds to the history is stored before

@@ -1,11 +1,13 @@
 //! Answering lines over an exchange whose journal is open.
 
 ghost use Rattle.std.specs.Prelude.{◌≡◌, ◌+◌, ◌<◌, ◌≤◌, [], length, false, IfOk};
+ghost use Rattle.command_words.specs.Reply.{IsSound};
 ghost use Rattle.journal_disk.specs.Drive.{Honestly};
 ghost use Rattle.outside_faults.specs.Faults.{Rose};
 ghost use Rattle.outside_faults.specs.Told.{IfTold};
 ghost use Rattle.settle_core.specs.Bounds.{standard};
 ghost use Rattle.settle_core.specs.Legal.{IsLegal};
+ghost use Rattle.wire_json.specs.ReplyText.{text_of};
 ghost use Rattle.exchange_top.specs.Holds.{HasStored};
 ghost use Rattle.exchange_top.specs.Run.{outside, Served};
 ghost use Rattle.exchange_top.specs.declared.serving.TheConstants.{MAX_INPUT};
@@ -13,14 +15,14 @@ ghost use Rattle.exchange_top.specs.declared.serving.TheConstants.{MAX_INPUT};
 use crate::answering::answer_line;
 use crate::ended::Ended;
 use crate::storing::store_new;
-use crate::wire_json::{Text, write_reply};
-use command_words::Clock;
+use command_words::{Clock, Reply};
 use condition_sets::NoMemory;
 use journal_disk::Disk;
 use journal_store::{Batch, DiskFault, Journal};
 use line_link::{LineReader, ReadEnd, Sink, Source, Status, WriteFault, write_all};
 use settle_core::Exchange;
 use std::alloc::Global;
+use wire_json::{Text, write_reply};
 
 /// How many bytes a run takes from its source at the most.
 pub const MAX_INPUT: u64 = 1 << 40;
@@ -66,6 +68,14 @@ fn end<D: Disk>(status: Status, lines: u64, opened: Opened<D>) -> Ended<D>
     }
 }
 
+/// Makes the text of a reply that isn't needed any more.
+fn spell(reply: Reply, into: &mut Text)
+    requires { IsSound reply }
+    ensures { into.new ≡ text_of reply }
+{
+    write_reply(&reply, into);
+}
+
 /// Answers each line until the source ends or an object of the outside fails.
 pub(crate) fn serve<R: Source, W: Sink, D: Disk, C: Clock>(
     alloc: Global,
@@ -108,7 +118,7 @@ pub(crate) fn serve<R: Source, W: Sink, D: Disk, C: Clock>(
             Ok(()) => {}
             Err(DiskFault) => return end(Status::DiskFault, lines, opened),
         }
-        write_reply(&reply, &mut desk.text);
+        spell(reply, &mut desk.text);
         match write_all(sink, desk.text.as_slice()) {
             Ok(()) => lines += 1,
             Err(WriteFault) => return end(Status::WriteFault, lines, opened),

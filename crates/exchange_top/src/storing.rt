@@ -1,10 +1,10 @@
 //! Storing the acts of a history in its journal.
 
 ghost use Rattle.std.specs.Prelude.{◌≡◌, ◌⊎◌, ℕ, ◌+◌, ◌^◌, ◌<◌, ◌≤◌, List, [], ◌∷◌, ◌++◌, length, true, false, OnOk, OnErr};
+ghost use Rattle.command_words.specs.Command.{may_be_act};
 ghost use Rattle.command_words.specs.declared.act.Act.{Act};
 ghost use Rattle.journal_disk.specs.Steps.{GoesOn};
 ghost use Rattle.outside_faults.specs.Faults.{Rose};
-ghost use Rattle.settle_core.specs.Askable.{IsAskable};
 ghost use Rattle.exchange_top.specs.Holds.{Holds, HasStored, IsStep};
 
 use act_bytes::{MAX_ACT, write_act};
@@ -51,7 +51,7 @@ pub(crate) fn store_new<D: Disk>(
 
 /// Puts an act behind those of a journal, in a batch of its own. It takes no memory.
 fn store<D: Disk>(act: &Act, journal: &mut Journal<D>, batch: &mut Batch) -> Result<(), DiskFault>
-    requires askable { IsAskable act.now }
+    requires act { may_be_act act.now.command ≡ true }
     requires count { journal.old.count < 2 ^ 32 }
     requires sound { journal.old.broken ≡ false }
 

@@ -136,7 +136,7 @@ lines-preserved g c =
       tick = c.now-now.ensures;
       answered = line-answered _ _ history after turn turn_of _ _ c.lines.invariant.limits c.text.ensures refl c.answer_line-reply.ensures.answered;
     } in
-    let written = subst (λ (text : List ℕ). Appends (held c.lines.sink) (held c.write_all.new.sink) text) (c.as_slice.ensures ∙ c.write_reply.ensures) c.in-Ok-write_all.ensures.ok in
+    let written = subst (λ (text : List ℕ). Appends (held c.lines.sink) (held c.write_all.new.sink) text) (c.as_slice.ensures ∙ c.spell.ensures) c.in-Ok-write_all.ensures.ok in
     record {
       serving = serving-step first c.lines.lines history after turn c.lines.desk.reader c.next.new.self before now next c.lines.invariant.serving is written;
       storing = storing-step g.D.Disk.drive c.args.opened.journal.disk first history after c.lines.opened.journal c.store_new.new.journal c.lines.invariant.storing c.answer_line-reply.ensures.step
@@ -172,7 +172,7 @@ returns-in-Err-write_all-clause-served g c =
       answered = line-answered _ _ history after turn turn_of _ _ c.lines.invariant.limits c.text.ensures refl c.answer_line-reply.ensures.answered;
     } in
     let legal = subst (λ (limits : Bounds). IsLegal limits after) (c.answer_line-reply.ensures.limits ∙ c.lines.invariant.limits) c.end-in-Err-write_all.ensures.legal in
-    let front = subst (λ (text : List ℕ). AppendsFront (held c.lines.sink) (held c.write_all.new.sink) text) (c.as_slice.ensures ∙ c.write_reply.ensures) c.in-Err-write_all.ensures.err in
+    let front = subst (λ (text : List ℕ). AppendsFront (held c.lines.sink) (held c.write_all.new.sink) text) (c.as_slice.ensures ∙ c.spell.ensures) c.in-Err-write_all.ensures.err in
     subst (λ (e : Ended g.row.D.Denot). Served g.D.Disk.drive c.args.opened.journal.disk first e before next) (sym c.end-in-Err-write_all.ensures.value)
     (serving-cut g.D.Disk.drive g.D.Disk.is_drive c.args.opened.journal.disk first c.lines.lines history after turn c.lines.desk.reader c.next.new.self c.store_new.new.journal before now next
     c.lines.invariant.serving

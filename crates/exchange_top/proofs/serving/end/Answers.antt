@@ -1,0 +1,6 @@
+use Rattle.std.proofs.Common.{subst}
+use Rattle.settle_core.specs.Legal.{IsLegal}
+use Rattle.exchange_top.proofs.serving.end.Goals as goal
+
+pub returns-clause-legal : goal.returns-clause-legal
+returns-clause-legal g c = subst (IsLegal c.args.opened.exchange.limits) c.history.ensures.value c.history.ensures.legal
