@@ -34,6 +34,15 @@ pub struct Outside {
     pub failing: Failing,
 }
 
+impl Outside {
+    /// In usual pieces, and without a failing call.
+    pub const CALM: Outside = Outside {
+        read: PIECE,
+        write: PIECE,
+        failing: Failing::NONE,
+    };
+}
+
 impl fmt::Display for Outside {
     fn fmt<W: fmt::Write>(&self, f: &mut fmt::Formatter<W>) -> fmt::Result {
         if self.read != PIECE {

@@ -113,7 +113,7 @@ fn compare_left(
 }
 
 /// Compares bytes, and names the first place at which they differ.
-fn compare_bytes(
+pub fn compare_bytes(
     alloc: Global,
     outside: &Outside,
     line: usize,
