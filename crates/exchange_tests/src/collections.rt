@@ -27,6 +27,14 @@ fn joined(pairs: &[(u16, u32)]) -> Result<Result<Collection, KeyFault>, Fail> {
     Ok(Ok(key))
 }
 
+/// The collection of pairs that can be joined.
+pub fn collection(pairs: &[(u16, u32)]) -> Result<Collection, Fail> {
+    match joined(pairs)? {
+        Ok(key) => Ok(key),
+        Err(_) => Err("not joined".into()),
+    }
+}
+
 #[test]
 fn pairs_are_joined(rt: HostRuntime) -> Result<(), Fail> {
     let four = joined(&[(7, 3), (0, 1), (9, 2), (3, 1)])?;

@@ -2,7 +2,8 @@
 //! them.
 //!
 //! What lines reach is told by the cases of `exchange_cases`. Here public calls that no request makes yet succeed once,
-//! small limits are reached, and the images that a disk lists are compared with examples that were written by hand.
+//! small limits are reached, and the images that a disk lists and the texts of all replies are compared with examples
+//! that were written by hand.
 #![tactic(auto)]
 
 #[cfg(test)]
@@ -26,7 +27,13 @@ mod memory;
 #[cfg(test)]
 mod orders;
 #[cfg(test)]
+mod plans;
+#[cfg(test)]
+mod refusals;
+#[cfg(test)]
 mod replies;
+#[cfg(test)]
+mod trial;
 
 fn main(rt: HostRuntime) {
     let _ = println!(rt; "rt test runs the tests");
