@@ -36,8 +36,6 @@ pub struct Ledger {
     supplies: IndexMap<Collection, u64>,
     // How many of these have a name.
     named: u32,
-    // The collections that the next commit names, as the last reservation found them.
-    coming: Vec<Collection>,
     vault: u64,
     // How many amounts are other than 0.
     entries: u32,
@@ -82,7 +80,6 @@ impl Ledger {
             accounts: Vec::new(alloc),
             supplies: IndexMap::new(alloc),
             named: 0,
-            coming: Vec::new(alloc),
             vault: 0,
             entries: 0,
             limit: entries,
@@ -169,7 +166,6 @@ impl Ledger {
     {
         make_room(
             &mut self.supplies,
-            &mut self.coming,
             &mut self.accounts,
             self.named as usize,
             s.postings(),
@@ -257,11 +253,10 @@ impl Ledger {
     }
 }
 
-// Gives numbers to the collections that the postings name, in place of those that were found before, and makes a place
-// for each posting. Nothing else changes.
+// Gives numbers to the collections that the postings name, in place of those that were numbered before, and makes a
+// place for each posting. Nothing else changes.
 fn make_room(
     supplies: &mut IndexMap<Collection, u64>,
-    coming: &mut Vec<Collection>,
     accounts: &mut Vec<BTreeMap<usize, u64>>,
     named: usize,
     postings: &[Posting],
@@ -277,8 +272,8 @@ fn make_room(
     ensures placed { OnOk result (are_placed (rows accounts.new.items) (keys_of supplies.new.entries) postings.now ≡ true) }
 {
     supplies.truncate(named);
-    find_new(coming, supplies, postings)?;
-    number_all(supplies, coming)?;
+    let coming = find_new(*accounts.allocator(), supplies, postings)?;
+    number_all(supplies, &coming)?;
     place_all(accounts, supplies, postings)
 }
 

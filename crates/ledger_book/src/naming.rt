@@ -1,6 +1,6 @@
 //! Which collections get a name, and the numbering of them.
 
-ghost use Rattle.std.specs.Prelude.{◌≡◌, ◌+◌, ◌≤◌, ◌++◌, length, take, not, OnOk};
+ghost use Rattle.std.specs.Prelude.{◌≡◌, ◌+◌, ◌≤◌, ◌++◌, length, take, not, IfOk, OnOk};
 ghost use Rattle.std.specs.List.{prefix_len};
 ghost use Rattle.std.specs.Ordering.{is_lt};
 ghost use Rattle.std.specs.Map.{keys_of};
@@ -14,23 +14,24 @@ use crate::posting::Posting;
 use collection_keys::Collection;
 use condition_sets::NoMemory;
 use indexmap::IndexMap;
+use std::alloc::Global;
 
-// Finds the collections that the postings name, ascending, in place of what was found before.
+// The collections that the postings name, ascending.
 pub(crate) fn find_new(
-    coming: &mut Vec<Collection>,
+    alloc: Global,
     supplies: &IndexMap<Collection, u64>,
     postings: &[Posting],
-) -> Result<(), NoMemory>
-    ensures { OnOk result (coming.new.items ≡ new_names (keys_of supplies.now.entries) postings.now) }
+) -> Result<Vec<Collection>, NoMemory>
+    ensures { IfOk result (λ coming. coming.items ≡ new_names (keys_of supplies.now.entries) postings.now) }
 {
-    coming.clear();
+    let mut coming = Vec::new(alloc);
     for posting in postings {
-        if is_new(coming, supplies, postings, posting) {
-            let place = place_of(coming, &posting.collection);
+        if is_new(&coming, supplies, postings, posting) {
+            let place = place_of(&coming, &posting.collection);
             coming.insert(place, posting.collection)?;
         }
     }
-    Ok(())
+    Ok(coming)
 }
 
 // Whether a posting's collection is to be put among those that come.

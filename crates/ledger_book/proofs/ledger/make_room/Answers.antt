@@ -8,4 +8,4 @@ use Rattle.ledger_book.proofs.ledger.make_room.Goals as goal
 pub number_all-requires : goal.number_all-requires
 number_all-requires c =
     let old = keys_of c.truncate.new.self.entries in
-    subst (λ (ks : List Pairs). AreFresh old ks) (sym (c.deref.ensures.value ∙ c.in_ok-find_new.ensures)) (new_names-fresh old c.args.postings.now)
+    subst (λ (ks : List Pairs). AreFresh old ks) (sym (c.deref.ensures.value ∙ c.in_ok-coming.ensures)) (new_names-fresh old c.args.postings.now)
