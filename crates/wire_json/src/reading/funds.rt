@@ -62,7 +62,7 @@ pub fn prepare_in(value: &Value) -> Result<Command, LineFault>
     })
 }
 
-/// `{"do":"event","by":2,"oracle":3,"questions":4,"fee":50}`
+/// `{"do":"event","by":0,"oracle":3,"questions":4,"fee":50}`
 pub fn event_in(value: &Value) -> Result<Command, LineFault>
     ensures { ReadsAs result (kind_then_range in_ranges (event_in (view value.now))) }
 {

@@ -85,7 +85,7 @@ pub fn match_in(alloc: Global, value: &Value) -> Result<Command, LineFault>
     })
 }
 
-/// `{"do":"lapse","by":4,"order":0}`
+/// `{"do":"lapse","by":0,"order":0}`
 pub fn lapse_in(value: &Value) -> Result<Command, LineFault>
     ensures { ReadsAs result (kind_then_range in_ranges (lapse_in (view value.now))) }
 {
