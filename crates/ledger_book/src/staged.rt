@@ -2,6 +2,7 @@ ghost use Rattle.std.specs.Prelude.{◌≡◌, ℕ, ℤ, pos, ◌+◌, ◌-◌, 
 ghost use Rattle.condition_sets.specs.declared.amount.TheConstants.{MAX_AMOUNT};
 ghost use Rattle.collection_keys.specs.Collections.{Pairs};
 ghost use Rattle.ledger_book.specs.declared.staged.TheConstants.{MAX_POSTED};
+ghost use Rattle.ledger_book.specs.Entries.{held_after};
 ghost use Rattle.ledger_book.specs.Ledger.{amount_at};
 ghost use Rattle.ledger_book.specs.Postings.{credit, debit, credits, debits, IsNetWithin, AreWithin, IsFunded};
 ghost use Rattle.ledger_book.specs.Staging.{left_at, signed_posting, DebitedBy, PostedBy};
@@ -146,6 +147,18 @@ impl Staged {
             Ok(()) => Ok(()),
             Err(NoMemory) => Err(DebitFault::Memory),
         }
+    }
+
+    /// What an account has at a position that isn't below 0, with what is staged so far. It takes no memory.
+    pub fn have(&self, ledger: &Ledger, a: AccountId, k: &Collection) -> u64
+        requires net { IsNetWithin MAX_POSTED self.now.postings a k.now }
+        requires held { debits self.now.postings a k.now ≤ amount_at ledger.now a k.now + credits self.now.postings a k.now }
+
+        ensures value { result ≡ held_after (amount_at ledger.now) self.now.postings a k.now }
+        ensures within { result ≤ MAX_AMOUNT + credits self.now.postings a k.now }
+    {
+        let _most = ledger.balance(a, k);
+        self.left(ledger, a, k) as u64
     }
 
     /// Stages a change of the vault. It takes no memory.
