@@ -1,0 +1,4 @@
+mod Again
+pub mod Redemptions
+mod Room
+mod Weights
