@@ -1,0 +1,6 @@
+pub mod Holdings
+pub mod Needs
+mod Products
+mod Shares
+pub mod Weights
+pub mod Worths
