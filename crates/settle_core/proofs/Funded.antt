@@ -1,5 +1,5 @@
 -- What an accepted act posts takes what is there.
-use Rattle.std.proofs.Common.{◌≡◌, ℕ, zero, suc, ◌+◌, ◌<◌, ◌≤◌, Bool, true, false, cond, List, [], ◌∷◌, ◌++◌, length, take, get_or, All, Option, Some, None, refl, ap, subst, ◌∙◌, arith, add-one, inl, inr}
+use Rattle.std.proofs.Common.{◌≡◌, ℕ, zero, suc, ◌+◌, ◌<◌, ◌≤◌, Bool, true, false, cond, List, [], ◌∷◌, ◌++◌, length, take, get_or, All, Option, Some, None, refl, ap, subst, ◌∙◌, arith, add-one, inl, inr, sym}
 use Rattle.std.specs.Prelude.{◌==◌, map, nat_lt, option_map}
 use Rattle.std.proofs.lemmas.Bool.{cases_Bool, eqb-true, ltb-false}
 use Rattle.std.proofs.lemmas.List.{get_or_default, map_more, map_push, take_all}
@@ -11,23 +11,22 @@ use Rattle.collection_keys.specs.Collections.{Pairs, joined, root}
 use Rattle.collection_keys.specs.Comparing.{same_collection}
 use Rattle.command_words.specs.declared.act.Act.{Act}
 use Rattle.command_words.specs.declared.command.Command.{Command}
-use Rattle.command_words.specs.declared.command.Command.TheVariants.{Deposit, Split, Merge}
+use Rattle.command_words.specs.declared.command.Command.TheVariants.{Deposit, Withdraw, Move, Split, Merge, Redeem}
 use Rattle.condition_sets.specs.Sets.{IsProper, AreApart}
 use Rattle.ledger_book.specs.Planning.{first_short}
 use Rattle.ledger_book.specs.Postings.{IsFunded, credit, debit, debits, taken_from_account}
 use Rattle.ledger_book.specs.declared.posting.Posting.{Posting}
 use Rattle.split_merge.proofs.Apart.{same_set, untaken_at}
 use Rattle.split_merge.specs.Splitting.{merge_postings, parts_of, split_postings}
-use Rattle.settle_core.specs.Book.{book, conditions, postings_of}
+use Rattle.settle_core.specs.Book.{Book, book, conditions, reports, held_in, numerators_on, postings_of, redeemed_in}
 use Rattle.settle_core.specs.Bounds.{Bounds}
 use Rattle.settle_core.specs.Keys.{whole_in}
-use Rattle.settle_core.specs.Legal.{IsAccepted}
 use Rattle.settle_core.specs.Postings.{balance}
-use Rattle.settle_core.specs.Refusals.{Question}
-use Rattle.settle_core.specs.Verdict.{verdict}
-use Rattle.settle_core.specs.declared.condition_table.facts.Facts.{Facts}
+use Rattle.report_redeem.proofs.Redemptions.{redeemed-funded}
+use Rattle.settle_core.specs.Refusals.{Question, amount_of, taken_by}
+use Rattle.condition_table.specs.declared.facts.Facts.{Facts}
 use Rattle.settle_core.proofs.Partitions.{IsPartition, accepted-merge}
-use Rattle.settle_core.proofs.Verdicts.{accepted-funds}
+use Rattle.settle_core.proofs.Verdicts.{AreNone, earlier, accepted-funds}
 
 -- ---- what is there where nothing is short
 
@@ -131,21 +130,43 @@ merge-funded held prepared a amount whole parent condition sets is none b k =
 none-posted : (held : ℕ → Pairs → ℕ) → IsFunded held []
 none-posted held b k = omega arith
 
--- every command that is accepted
-funded-by : (limits : Bounds) (history : List Act) (account moment : ℕ) (command : Command)
-    → verdict (record { limits = limits; history = history; account = account; command = command; moment = moment }) ≡ None
+-- a move takes what it pays
+move-funded : (held : ℕ → Pairs → ℕ) (a to amount : ℕ) (key : Pairs) → amount ≤ held a key → IsFunded held (debit a key amount ∷ credit to key amount ∷ [])
+move-funded held a to amount key there b k =
+    let first : 0 + taken_from_account b k (debit a key amount) ≤ held b k = one-more held (λ b k. 0) a amount key b k there refl (omega arith) in
+    omega (arith, first, untaken-credits to amount (key ∷ []) b k, sum_by-cons (taken_from_account b k) (debit a key amount) (credit to key amount ∷ []))
+
+-- what a command takes of one collection is held
+one-there : (q : Question) (k : Pairs) → AreNone (earlier q) → taken_by (conditions q.history) q.command ≡ k ∷ [] → amount_of q.command ≤ balance q.history q.account k
+one-there q k none takes =
+    let held = balance q.history q.account in
+    let short : first_short held (amount_of q.command) (k ∷ []) ≡ None = ap (first_short held (amount_of q.command)) (sym takes) ∙ accepted-funds q none in
+    let parts = none-short (nat_lt (held k) (amount_of q.command)) (0, held k) (λ short. (suc short.0, short.1)) None short in
+    ltb-false _ _ parts.0
+
+-- a redemption takes what is left of each set
+redeem-funded : (b : Book) (a : ℕ) (parent : Pairs) (c : ℕ) (sets : List ℕ) (o : Option (List ℕ)) → IsFunded (held_in b) (redeemed_in b a parent c sets o)
+redeem-funded b a parent c sets None = none-posted (held_in b)
+redeem-funded b a parent c sets (Some ns) = redeemed-funded (held_in b) a parent c ns sets
+
+-- every command that no refusal below that of a supply meets
+pub funded-by : (limits : Bounds) (history : List Act) (account moment : ℕ) (command : Command)
+    → AreNone (earlier (record { limits = limits; history = history; account = account; command = command; moment = moment }))
     → IsFunded (balance history) (postings_of (book history) account command)
 funded-by limits history account moment (Deposit to amount) none = λ b k. omega (arith, untaken-credits to amount (root ∷ []) b k)
+funded-by limits history account moment (Withdraw amount) none =
+    let q : Question = record { limits = limits; history = history; account = account; command = Withdraw amount; moment = moment } in
+    split-funded (balance history) account amount root [] (one-there q root none refl)
+funded-by limits history account moment (Move to key amount) none =
+    let q : Question = record { limits = limits; history = history; account = account; command = Move to key amount; moment = moment } in
+    move-funded (balance history) account to amount key (one-there q key none refl)
 funded-by limits history account moment (Split parent condition sets amount) none =
     let q : Question = record { limits = limits; history = history; account = account; command = Split parent condition sets amount; moment = moment } in
     let whole = whole_in (conditions history) parent condition sets in
-    let parts = none-short (nat_lt (balance history account whole) amount) (0, balance history account whole) (λ short. (suc short.0, short.1)) None (accepted-funds q none) in
-    split-funded (balance history) account amount whole (parts_of parent condition sets) (ltb-false _ _ parts.0)
+    split-funded (balance history) account amount whole (parts_of parent condition sets) (one-there q whole none refl)
 funded-by limits history account moment (Merge parent condition sets amount) none =
     let q : Question = record { limits = limits; history = history; account = account; command = Merge parent condition sets amount; moment = moment } in
     merge-funded (balance history) (conditions history) account amount (whole_in (conditions history) parent condition sets) parent condition sets
     (accepted-merge limits history account moment parent condition sets amount none) (accepted-funds q none)
+funded-by limits history account moment (Redeem parent condition sets) none = redeem-funded (book history) account parent condition sets (numerators_on (reports history) condition)
 funded-by limits history account moment command none = none-posted (balance history)
-
-pub posts-funded : (limits : Bounds) (history : List Act) (act : Act) → IsAccepted limits history act → IsFunded (balance history) (postings_of (book history) act.account act.command)
-posts-funded limits history act accepted = funded-by limits history act.account act.moment act.command accepted.accepted

@@ -1,28 +1,29 @@
 -- A supply is what all accounts hold together.
-use Rattle.std.proofs.Common.{◌≡◌, ◌==◌, ℕ, zero, suc, ◌+◌, ◌-◌, ◌^◌, ◌<◌, ◌≤◌, Bool, true, false, cond, List, [], ◌∷◌, ◌++◌, length, take, refl, sym, ap, subst, ◌∙◌, arith, inl, inr}
-use Rattle.std.specs.Prelude.{All, ◌&&◌, fold, map, slice_get, Some, sum_by}
+use Rattle.std.proofs.Common.{Option, None, ◌≡◌, ◌==◌, ℕ, zero, suc, ◌+◌, ◌-◌, ◌^◌, ◌<◌, ◌≤◌, Bool, true, false, cond, List, [], ◌∷◌, ◌++◌, refl, sym, ap, ◌∙◌, arith, inl, inr}
+use Rattle.std.specs.Prelude.{All, ◌&&◌, fold, map, Some, sum_by}
 use Rattle.std.proofs.lemmas.Bool.{cases_order, cond-true, cond-false}
 use Rattle.std.proofs.lemmas.Bool.Decides.{nat_tests}
-use Rattle.std.proofs.lemmas.List.{take_all}
 use Rattle.std.proofs.lemmas.List.Elements.{All-append, All-cons, All-head, All-nil, All-tail}
 use Rattle.std.proofs.lemmas.List.Sums.{sum_by-cons}
-use Rattle.collection_keys.specs.Collections.{Pairs, root}
+use Rattle.collection_keys.specs.Collections.{Pairs, joined, root}
 use Rattle.command_words.proofs.Acts.{act-ranges}
 use Rattle.command_words.specs.Command.{in_ranges, may_be_act}
-use Rattle.command_words.specs.Ranges.{is_account, is_amount}
+use Rattle.command_words.specs.Ranges.{is_account, is_amount, is_key}
 use Rattle.command_words.specs.declared.act.Act.{Act}
 use Rattle.command_words.specs.declared.command.Command.{Command}
-use Rattle.command_words.specs.declared.command.Command.TheVariants.{Deposit, Split, Merge}
-use Rattle.ledger_book.specs.Postings.{credit, debit, credits, debits, paid_to, taken_from, paid_to_account, taken_from_account}
+use Rattle.command_words.specs.declared.command.Command.TheVariants.{Deposit, Withdraw, Move, Split, Merge, Redeem}
+use Rattle.ledger_book.specs.Postings.{credit, debit, credits, debits, paid_to, taken_from}
 use Rattle.ledger_book.specs.declared.posting.Posting.{Posting}
+use Rattle.report_redeem.specs.Redeeming.{Redeemed, postings_for, redeemed}
 use Rattle.split_merge.specs.Splitting.{parts_of}
-use Rattle.settle_core.specs.Book.{Book, blank, entered, postings, postings_of}
+use Rattle.std.specs.List.{flat_map}
+use Rattle.settle_core.specs.Book.{Book, blank, entered, held_in, numerators_on, postings, postings_of, redeemed_in}
 use Rattle.settle_core.specs.Bounds.{Bounds}
 use Rattle.settle_core.specs.Keys.{whole_in}
-use Rattle.settle_core.specs.Legal.{IsAccepted, IsLegal}
+use Rattle.settle_core.specs.Legal.{IsLegal}
 use Rattle.settle_core.specs.Postings.{supply, over_accounts, held_by_all}
-use Rattle.settle_core.proofs.Funded.{posts-funded}
-use Rattle.settle_core.proofs.Histories.{legal-acts, sum-more}
+use Rattle.settle_core.proofs.Coverage.{settled}
+use Rattle.settle_core.proofs.Histories.{legal-acts}
 
 -- ---- sums over accounts
 
@@ -102,12 +103,26 @@ first_true : (a b : Bool) → (a && b) ≡ true → a ≡ true
 first_true true b both = refl
 first_true false b both = cc
 
+redeems-of : (a : ℕ) (parent : Pairs) (c : ℕ) (rs : List Redeemed) → a < 2 ^ 16 → AreOfAccounts (flat_map (postings_for a parent c) rs)
+redeems-of a parent c [] fits = none-of
+redeems-of a parent c (r ∷ rs) fits =
+    let rest = flat_map (postings_for a parent c) rs in
+    one-of (debit a (joined parent c r.set) r.burnt) (credit a parent r.paid ∷ rest) fits (one-of (credit a parent r.paid) rest fits (redeems-of a parent c rs fits))
+
+redemption-of : (b : Book) (a : ℕ) (parent : Pairs) (c : ℕ) (sets : List ℕ) (o : Option (List ℕ)) → a < 2 ^ 16 → AreOfAccounts (redeemed_in b a parent c sets o)
+redemption-of b a parent c sets None fits = none-of
+redemption-of b a parent c sets (Some ns) fits = redeems-of a parent c (redeemed (held_in b) a parent c ns sets) fits
+
 posts-of-account : (b : Book) (a : ℕ) (command : Command) → a < 2 ^ 16 → in_ranges command ≡ true → AreOfAccounts (postings_of b a command)
 posts-of-account b a (Deposit to amount) fits ranges = one-of (credit to root amount) [] (account-within to (first_true (is_account to) (is_amount amount) ranges)) none-of
 posts-of-account b a (Split parent condition sets amount) fits ranges =
     one-of (debit a (whole_in b.conditions parent condition sets) amount) _ fits (credits-of a amount (parts_of parent condition sets) fits)
 posts-of-account b a (Merge parent condition sets amount) fits ranges =
     debits-of a amount (parts_of parent condition sets) _ fits (one-of (credit a (whole_in b.conditions parent condition sets) amount) [] fits none-of)
+posts-of-account b a (Withdraw amount) fits ranges = one-of (debit a root amount) [] fits none-of
+posts-of-account b a (Move to key amount) fits ranges =
+    one-of (debit a key amount) (credit to key amount ∷ []) fits (one-of (credit to key amount) [] (account-within to (first_true (is_account to) (is_key key && is_amount amount) ranges)) none-of)
+posts-of-account b a (Redeem parent condition sets) fits ranges = redemption-of b a parent condition sets (numerators_on b.reports condition) fits
 posts-of-account b a command fits ranges = none-of
 
 abbrev MayBeActs : List Act → Type 0
@@ -121,32 +136,6 @@ all-of-accounts (act ∷ acts) b askable fits so_far =
     all-of-accounts acts (entered b act) (All-tail (λ (x : Act). may_be_act x.command ≡ true) act acts askable) (All-tail (λ (x : Act). is_account x.account ≡ true) act acts fits)
     (All-append (λ (p : Posting). p.account < 2 ^ 16) b.postings (postings_of b act.account act.command) so_far posts)
 
--- ---- no position of a legal history falls below 0
-
-abbrev IsCovered : List Act → Type 0
-IsCovered history = (a : ℕ) (k : Pairs) → debits (postings history) a k ≤ credits (postings history) a k
-
-covered-more : (limits : Bounds) (history : List Act) (act : Act) → IsCovered history → IsAccepted limits history act → IsCovered (history ++ act ∷ [])
-covered-more limits history act so_far accepted a k =
-    omega (arith, so_far a k, posts-funded limits history act accepted a k, sum-more (paid_to_account a k) history act, sum-more (taken_from_account a k) history act)
-
-element-at : (history : List Act) (n : ℕ) → n < length history → (act : Act) × (slice_get history n ≡ Some act) × (take (suc n) history ≡ take n history ++ act ∷ [])
-element-at [] n inside = absurd (omega arith)
-element-at (act ∷ acts) zero inside = (act, refl, refl)
-element-at (act ∷ acts) (suc n) inside =
-    let later = element-at acts n (omega arith) in
-    (later.0, later.1, ap (λ (xs : List Act). act ∷ xs) later.2)
-
-covered-front : (limits : Bounds) (history : List Act) → IsLegal limits history → (n : ℕ) → n ≤ length history → IsCovered (take n history)
-covered-front limits history legal zero few = λ a k. omega arith
-covered-front limits history legal (suc n) few =
-    let at = element-at history n few in
-    subst IsCovered (sym at.2) (covered-more limits (take n history) at.0 (covered-front limits history legal n (omega arith)) (legal n at.0 at.1))
-
-covered : (limits : Bounds) (history : List Act) → IsLegal limits history → IsCovered history
-covered limits history legal =
-    subst IsCovered (take_all (length history) history (omega arith)) (covered-front limits history legal (length history) (omega arith))
-
 -- ---- the law
 
 over-difference : (n : ℕ) (f g : ℕ → ℕ) → ((a : ℕ) → g a ≤ f a) → over_accounts n (λ a. f a - g a) + over_accounts n g ≡ over_accounts n f
@@ -158,4 +147,4 @@ pub supply-held : (limits : Bounds) (history : List Act) (k : Pairs) → IsLegal
 supply-held limits history k legal fits =
     let ps = postings history in
     let within = all-of-accounts history blank (legal-acts limits history legal) fits (All-nil (λ (p : Posting). p.account < 2 ^ 16)) in
-    omega (arith, over-postings (2 ^ 16) (paid_to k) ps within, over-postings (2 ^ 16) (taken_from k) ps within, over-difference (2 ^ 16) (λ a. credits ps a k) (λ a. debits ps a k) (λ a. covered limits history legal a k))
+    omega (arith, over-postings (2 ^ 16) (paid_to k) ps within, over-postings (2 ^ 16) (taken_from k) ps within, over-difference (2 ^ 16) (λ a. credits ps a k) (λ a. debits ps a k) (λ a. omega (arith, (settled limits history legal).above a k)))

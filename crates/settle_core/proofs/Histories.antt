@@ -11,8 +11,8 @@ use Rattle.command_words.specs.Command.{may_be_act}
 use Rattle.settle_core.specs.Bounds.{Bounds}
 use Rattle.settle_core.specs.Legal.{IsAccepted, IsLegal}
 use Rattle.ledger_book.specs.declared.posting.Posting.{Posting}
-use Rattle.settle_core.specs.Book.{blank, book, entered, conditions, prepared_by, postings, postings_of, Book}
-use Rattle.settle_core.specs.Postings.{vault, deposit_of}
+use Rattle.settle_core.specs.Book.{blank, book, entered, conditions, prepared_by, reports, reported_by, postings, postings_of, Book}
+use Rattle.settle_core.specs.Postings.{deposit_of, deposited, withdrawal_of, withdrawn}
 
 -- the value in a Some
 some_value : {X : Type 0} (x y : X) → Some x ≡ Some y → x ≡ y
@@ -52,13 +52,20 @@ legal-acts limits history legal place act inside = (legal place (get_or history 
 book-more : (history : List Act) (act : Act) → book (history ++ act ∷ []) ≡ entered (book history) act
 book-more history act = fold-append entered blank history (act ∷ [])
 
--- an act more pays its deposit into the vault
-pub vault-more : (history : List Act) (act : Act) → vault (history ++ act ∷ []) ≡ vault history + deposit_of act.command
-vault-more history act = sum_by_push (λ (a : Act). deposit_of a.command) history act
+-- an act more pays its deposit into the vault, and its withdrawal out of it
+pub deposited-more : (history : List Act) (act : Act) → deposited (history ++ act ∷ []) ≡ deposited history + deposit_of act.command
+deposited-more history act = sum_by_push (λ (a : Act). deposit_of a.command) history act
+
+pub withdrawn-more : (history : List Act) (act : Act) → withdrawn (history ++ act ∷ []) ≡ withdrawn history + withdrawal_of act.command
+withdrawn-more history act = sum_by_push (λ (a : Act). withdrawal_of a.command) history act
 
 -- an act more prepares its condition
 pub conditions-more : (history : List Act) (act : Act) → conditions (history ++ act ∷ []) ≡ conditions history ++ prepared_by (book history) act.command
 conditions-more history act = ap (λ (b : Book). b.conditions) (book-more history act)
+
+-- an act more reports behind the others
+pub reports-more : (history : List Act) (act : Act) → reports (history ++ act ∷ []) ≡ reports history ++ reported_by act.command
+reports-more history act = ap (λ (b : Book). b.reports) (book-more history act)
 
 -- an act more posts behind the others, which adds to every sum over what was posted
 pub postings-more : (history : List Act) (act : Act) → postings (history ++ act ∷ []) ≡ postings history ++ postings_of (book history) act.account act.command

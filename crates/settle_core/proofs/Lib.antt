@@ -1,15 +1,18 @@
-mod Cash
+pub mod Coverage
 mod EntryCounts
 mod Funded
-mod Grouped
 mod Held
 mod Histories
 mod Inductions
 mod KeptLemmas
 mod KeyLemmas
+mod Known
 mod Lowest
+mod Moves
 mod Partings
 mod Partitions
 mod Posted
+mod Reported
+mod Settled
 mod Verdicts
-mod Worth
+mod Zeros

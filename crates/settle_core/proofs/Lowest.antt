@@ -1,15 +1,16 @@
 -- The first refusal that is there has the lowest number.
-use Rattle.std.proofs.Common.{◌≡◌, ℕ, ◌<◌, ◌≤◌, List, [], ◌∷◌, length, Option, Some, None, refl, subst, arith, zero, suc, Bool, true, false}
+use Rattle.std.proofs.Common.{◌≡◌, ℕ, ◌+◌, ◌<◌, ◌≤◌, List, [], ◌∷◌, ◌++◌, length, Option, Some, None, refl, subst, arith, zero, suc, Bool, true, false}
 use Rattle.std.specs.Prelude.{Contains, slice_index_or, option_map}
 use Rattle.command_words.specs.Refusal.{code_of}
 use Rattle.command_words.specs.declared.refusal.Refusal.{Refusal}
-use Rattle.command_words.specs.declared.refusal.Refusal.TheVariants.{NotAllowed, NoCondition, AlreadyPrepared, TableFull, BadSet, BadPartition, Held, TooDeep, Unfunded, VaultLimit, SupplyLimit, EntriesLimit, HistoryFull}
+use Rattle.command_words.specs.declared.refusal.Refusal.TheVariants.{NotAllowed, NoCondition, AlreadyPrepared, TableFull, BadSet, BadPartition, Held, TooDeep, AlreadyReported, BadPayouts, NotReported, Unfunded, VaultLimit, SupplyLimit, EntriesLimit, HistoryFull}
 use Rattle.ledger_book.specs.Planning.{first_short}
 use Rattle.ledger_book.specs.Staging.{oversupplied}
 use Rattle.settle_core.specs.Book.{book, conditions, postings_of}
 use Rattle.settle_core.specs.Postings.{balance, supply, vault}
 use Rattle.settle_core.specs.Refusals.{Question, where_, amount_of, taken_by}
-use Rattle.settle_core.specs.Verdict.{first_some, refusals}
+use Rattle.settle_core.specs.Verdict.{first_some, refusals, verdict}
+use Rattle.settle_core.proofs.Verdicts.{AreNone, earlier, last}
 
 -- the refusal has this number, where it is there
 abbrev pub IsNumbered : ℕ → Option Refusal → Type 0
@@ -33,7 +34,7 @@ numbered-each number refusal numbers (Some x) = numbers x
 -- the refusals of a question stand in the order of their numbers, from 5 on
 pub refusals-numbered : (q : Question) → AreNumbered 5 (refusals q)
 refusals-numbered q =
-    (where_-numbered _ NotAllowed, (where_-numbered _ NoCondition, (where_-numbered _ AlreadyPrepared, (where_-numbered _ TableFull, (where_-numbered _ BadSet, (where_-numbered _ BadPartition, (where_-numbered _ Held, (where_-numbered _ TooDeep, (tt, (tt, (tt, (tt, (tt, (tt, (tt, (tt, (tt, (tt, (tt, (tt, (tt, (tt, (tt, (numbered-each 28 (λ short. Unfunded short.1 short.0) (λ short. refl) (first_short (balance q.history q.account) (amount_of q.command) (taken_by (conditions q.history) q.command)), (tt, (tt, (tt, (where_-numbered _ (VaultLimit (vault q.history)), (numbered-each 33 SupplyLimit (λ in_all. refl) (oversupplied (supply q.history) (postings_of (book q.history) q.account q.command)), (where_-numbered _ EntriesLimit, (where_-numbered _ HistoryFull, tt)))))))))))))))))))))))))))))))
+    (where_-numbered _ NotAllowed, (where_-numbered _ NoCondition, (where_-numbered _ AlreadyPrepared, (where_-numbered _ TableFull, (where_-numbered _ BadSet, (where_-numbered _ BadPartition, (where_-numbered _ Held, (where_-numbered _ TooDeep, (where_-numbered _ AlreadyReported, (where_-numbered _ BadPayouts, (where_-numbered _ NotReported, (tt, (tt, (tt, (tt, (tt, (tt, (tt, (tt, (tt, (tt, (tt, (tt, (numbered-each 28 (λ short. Unfunded short.1 short.0) (λ short. refl) (first_short (balance q.history q.account) (amount_of q.command) (taken_by (conditions q.history) q.command)), (tt, (tt, (tt, (where_-numbered _ (VaultLimit (vault q.history)), (numbered-each 33 SupplyLimit (λ in_all. refl) (oversupplied (supply q.history) (postings_of (book q.history) q.account q.command)), (where_-numbered _ EntriesLimit, (where_-numbered _ HistoryFull, tt)))))))))))))))))))))))))))))))
 
 numbered : (number : ℕ) (o : Option Refusal) (refusal : Refusal) → IsNumbered number o → o ≡ Some refusal → code_of refusal ≡ number
 numbered number o refusal is there = let P : Option Refusal → Type 0 = λ p. IsNumbered number p in subst P there is
@@ -67,3 +68,19 @@ first_some-nowhere [] k refusal first inside at = absurd (omega arith)
 first_some-nowhere (Some x ∷ os) k refusal first inside at = cc
 first_some-nowhere (None ∷ os) zero refusal first inside at = cc
 first_some-nowhere (None ∷ os) (suc k) refusal first inside at = first_some-nowhere os k refusal first (omega arith) at
+
+-- a front of what is numbered is
+numbered-front : (number : ℕ) (os ps : List (Option Refusal)) → AreNumbered number (os ++ ps) → AreNumbered number os
+numbered-front number [] ps are = tt
+numbered-front number (o ∷ os) ps are = (are.0, numbered-front (suc number) os ps are.1)
+
+-- where the first that is there has a number behind a list, none is there in the list
+none-below : (number : ℕ) (os ps : List (Option Refusal)) (refusal : Refusal) → AreNumbered number os → first_some (os ++ ps) ≡ Some refusal → number + length os ≤ code_of refusal → AreNone os
+none-below number [] ps refusal are first above = tt
+none-below number (Some x ∷ os) ps refusal are first above = absurd (omega (arith, above, numbered number (Some x) refusal are.0 first))
+none-below number (None ∷ os) ps refusal are first above = (refl, none-below (suc number) os ps refusal are.1 first (omega (arith, above)))
+
+-- a command that is refused for a supply meets no refusal with a lower number
+pub earlier-of-supply : (q : Question) (supplied : ℕ) → verdict q ≡ Some (SupplyLimit supplied) → AreNone (earlier q)
+unfolding verdict
+earlier-of-supply q supplied is = none-below 5 (earlier q) (last q) (SupplyLimit supplied) (numbered-front 5 (earlier q) (last q) (refusals-numbered q)) is (omega arith)

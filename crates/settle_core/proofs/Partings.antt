@@ -1,21 +1,24 @@
--- The verdict on a split and a merge, refusal by refusal.
-use Rattle.std.proofs.Common.{◌≡◌, ◌==◌, ℕ, Bool, true, false, List, [], ◌∷◌, length, Option, None, Some, Err, refl, sym, ◌∙◌}
-use Rattle.std.specs.Prelude.{nat_le, nat_lt, ◌||◌, is_some, option_map}
+-- The verdict on commands that take, move and pay out positions, refusal by refusal.
+use Rattle.std.proofs.Common.{◌≡◌, ◌==◌, ℕ, Bool, true, false, List, [], ◌∷◌, length, Option, None, Some, Err, refl, sym, ap, ◌∙◌, arith}
+use Rattle.std.specs.Prelude.{nat_le, nat_lt, ◌||◌, is_some, is_none, slice_get, option_map}
 use Rattle.std.specs.List.{list_any}
+use Rattle.std.proofs.lemmas.Bool.Decides.{nat_tests}
+use Rattle.std.proofs.lemmas.Option.{slice_get_within}
 use Rattle.collection_keys.specs.Collections.{Pairs, part}
+use Rattle.collection_keys.specs.declared.collection.TheConstants.{MAX_PAIRS}
 use Rattle.command_words.specs.declared.act.Act.{Act}
 use Rattle.command_words.specs.declared.command.Command.{Command}
-use Rattle.command_words.specs.declared.command.Command.TheVariants.{Deposit, Split, Merge}
+use Rattle.command_words.specs.declared.command.Command.TheVariants.{Deposit, Withdraw, Move, Split, Merge, Report, Redeem}
 use Rattle.command_words.specs.declared.refusal.Refusal.{Refusal}
-use Rattle.command_words.specs.declared.refusal.Refusal.TheVariants.{NoCondition, BadSet, BadPartition, Held, TooDeep, Unfunded, HistoryFull, Memory}
+use Rattle.command_words.specs.declared.refusal.Refusal.TheVariants.{NoCondition, BadSet, BadPartition, Held, TooDeep, BadPayouts, NotReported, Unfunded, HistoryFull, Memory}
 use Rattle.condition_sets.specs.declared.names.TheConstants.{EXCHANGE}
 use Rattle.ledger_book.specs.Planning.{first_short}
-use Rattle.settle_core.specs.Book.{book, conditions, postings_of}
+use Rattle.settle_core.specs.Book.{book, conditions, reports, numerators_on, postings_of}
 use Rattle.settle_core.specs.Bounds.{Bounds}
-use Rattle.settle_core.specs.Refusals.{Question, where_, not_allowed, already_reported, bad_payouts, not_reported, no_event, determined, no_market, no_order, not_open, order_expired, nonce_old, self_match, repeated_order, wrong_pair, not_crossing, overfill, unfunded, exchange_short, too_little, still_funded, vault_limit, supply_limit, entries_limit, history_full, partition_refusals}
+use Rattle.settle_core.specs.Refusals.{Question, where_, not_allowed, already_reported, bad_payouts, not_reported, no_event, determined, no_market, no_order, not_open, order_expired, nonce_old, self_match, repeated_order, wrong_pair, not_crossing, overfill, unfunded, exchange_short, too_little, still_funded, vault_limit, supply_limit, entries_limit, history_full, choice_refusals, partition_refusals, is_no_report}
 use Rattle.settle_core.specs.Keys.{is_unprepared, is_improper, key_is_unprepared, key_is_improper, is_no_partition}
 use Rattle.settle_core.specs.Verdict.{verdict, first_some, AnsweredBy}
-use Rattle.settle_core.specs.declared.condition_table.facts.Facts.{Facts}
+use Rattle.condition_table.specs.declared.facts.Facts.{Facts}
 use Rattle.settle_core.proofs.KeptLemmas.{last_refusals}
 
 -- ---- the first that is there, among some that are none
@@ -65,6 +68,10 @@ later q =
 abbrev pub question : Bounds → List Act → ℕ → Command → ℕ → Question
 question limits history account command now = record { limits = limits; history = history; account = account; command = command; moment = now }
 
+-- nothing that comes before what isn't there refuses the question
+abbrev pub IsToFund : Question → Type 0
+IsToFund q = verdict q ≡ first_some (unfunded q ∷ None ∷ None ∷ None ∷ None ∷ supply_limit q ∷ entries_limit q ∷ where_ (nat_le q.limits.history (length q.history)) HistoryFull ∷ [])
+
 -- a merge, or a split
 abbrev pub parting : Bool → Pairs → ℕ → List ℕ → ℕ → Command
 parting true parent condition sets amount = Merge parent condition sets amount
@@ -99,8 +106,7 @@ front-answered X Y merges limits history account parent key condition sets bits 
 -- behind them comes what isn't there, and then what is refused at last
 pub front-none : (merges : Bool) (limits : Bounds) (history : List Act) (account : ℕ) (parent key : Pairs) (condition : ℕ) (sets bits : List ℕ) (amount now : ℕ) (prepared : List Facts) → (account == EXCHANGE) ≡ false
     → key ≡ parent → bits ≡ sets → prepared ≡ conditions history → first_some (partition_refusals prepared key condition bits) ≡ None
-    → let q : Question = question limits history account (parting merges parent condition sets amount) now in
-    verdict q ≡ first_some (unfunded q ∷ None ∷ None ∷ None ∷ None ∷ supply_limit q ∷ entries_limit q ∷ where_ (nat_le limits.history (length history)) HistoryFull ∷ [])
+    → IsToFund (question limits history account (parting merges parent condition sets amount) now)
 unfolding verdict
 front-none true limits history account parent key condition sets bits amount now prepared allowed one two three none =
     let here : first_some (partition_refusals (conditions history) parent condition sets) ≡ None = (λ i. first_some (partition_refusals (sym three i) (sym one i) condition (sym two i))) ∙ none in
@@ -130,3 +136,96 @@ pub deposit-last : (limits : Bounds) (history : List Act) (account to amount now
     not_allowed q ≡ None → vault_limit q ≡ None → verdict q ≡ last_refusals limits history (postings_of (book history) account (Deposit to amount))
 unfolding verdict
 deposit-last limits history account to amount now allowed vault = rw (allowed, vault) refl
+
+-- ---- a command that takes an amount of one position
+
+-- what it takes isn't there, or memory was wanting
+pub short-answered : (X Y : Type 0) (q : Question) (rest : List (Option Refusal)) (amount : ℕ) (held : Pairs → ℕ) (taken : List Pairs) (r : Refusal)
+    → verdict q ≡ first_some (option_map (λ short. Unfunded short.1 short.0) (first_short held amount taken) ∷ rest)
+    → AnsweredBy {X = X} (option_map (λ short. Unfunded short.1 short.0) (first_short held amount taken)) (Err r) → AnsweredBy {X = Y} (verdict q) (Err r)
+short-answered X Y q rest amount held taken Memory is by = tt
+short-answered X Y q rest amount held taken r is by = is ∙ rw by refl
+
+-- a withdrawal is refused for what isn't there, and then for what is refused at last
+pub withdraw-front : (limits : Bounds) (history : List Act) (account amount now : ℕ) → (account == EXCHANGE) ≡ false → IsToFund (question limits history account (Withdraw amount) now)
+unfolding verdict
+withdraw-front limits history account amount now allowed = rw allowed refl
+
+-- and so is a move, of a key that is right
+pub move-front : (limits : Bounds) (history : List Act) (account to : ℕ) (key : Pairs) (amount now : ℕ) → (account == EXCHANGE) ≡ false → (to == EXCHANGE) ≡ false
+    → key_is_unprepared (conditions history) key ≡ false → key_is_improper (conditions history) key ≡ false → nat_lt MAX_PAIRS (length key) ≡ false → IsToFund (question limits history account (Move to key amount) now)
+unfolding verdict
+move-front limits history account to key amount now allowed other there proper few = rw (allowed, other, there, proper, few) refl
+
+-- ---- reports
+
+-- a condition without numerators isn't reported
+pub none-told : (o : Option (List ℕ)) → is_some o ≡ false → o ≡ None
+none-told None none = refl
+none-told (Some ns) none = cc
+
+-- a report by the oracle on a condition that wasn't reported
+pub report-front : (limits : Bounds) (history : List Act) (account condition : ℕ) (payouts : List ℕ) (now : ℕ) (facts : Facts) (bad full : Bool) → let q : Question = question limits history account (Report condition payouts) now in
+    (account == EXCHANGE) ≡ false → slice_get (conditions history) condition ≡ Some facts → (facts.oracle == account) ≡ true
+    → numerators_on (reports history) condition ≡ None → is_no_report (Some facts) payouts ≡ bad → nat_le limits.history (length history) ≡ full
+    → verdict q ≡ first_some (where_ bad BadPayouts ∷ where_ full HistoryFull ∷ [])
+unfolding verdict
+report-front limits history account condition payouts now facts true full allowed at own none is_bad is_full =
+    let inside = slice_get_within (conditions history) condition facts at in
+    let there : is_unprepared (conditions history) condition ≡ false = grind (arith, nat_tests, inside) in
+    let badly : is_no_report (slice_get (conditions history) condition) payouts ≡ true = ap (λ (o : Option Facts). is_no_report o payouts) at ∙ is_bad in
+    rw (allowed, badly, at, there, own, none) refl
+report-front limits history account condition payouts now facts false full allowed at own none is_bad is_full =
+    let inside = slice_get_within (conditions history) condition facts at in
+    let there : is_unprepared (conditions history) condition ≡ false = grind (arith, nat_tests, inside) in
+    let badly : is_no_report (slice_get (conditions history) condition) payouts ≡ false = ap (λ (o : Option Facts). is_no_report o payouts) at ∙ is_bad in
+    rw (allowed, badly, at, there, own, none, is_full) refl
+
+-- ---- redemptions
+
+four-some : (a b c d : Option Refusal) (rest : List (Option Refusal)) (r : Refusal) → first_some (a ∷ b ∷ c ∷ d ∷ []) ≡ Some r → first_some (None ∷ a ∷ None ∷ None ∷ b ∷ None ∷ c ∷ d ∷ rest) ≡ Some r
+four-some (Some x) b c d rest r is = is
+four-some None (Some x) c d rest r is = is
+four-some None None (Some x) d rest r is = is
+four-some None None None (Some x) rest r is = is
+four-some None None None None rest r is = cc
+
+four-none : (a b c d : Option Refusal) (rest : List (Option Refusal)) → first_some (a ∷ b ∷ c ∷ d ∷ []) ≡ None → first_some (None ∷ a ∷ None ∷ None ∷ b ∷ None ∷ c ∷ d ∷ rest) ≡ first_some rest
+four-none (Some x) b c d rest none = cc
+four-none None (Some x) c d rest none = cc
+four-none None None (Some x) d rest none = cc
+four-none None None None (Some x) rest none = cc
+four-none None None None None rest none = refl
+
+-- a parent or sets that aren't right
+choice-some : (limits : Bounds) (history : List Act) (account : ℕ) (parent : Pairs) (condition : ℕ) (sets : List ℕ) (now : ℕ) (r : Refusal) → (account == EXCHANGE) ≡ false
+    → first_some (choice_refusals (conditions history) parent condition sets) ≡ Some r → verdict (question limits history account (Redeem parent condition sets) now) ≡ Some r
+unfolding verdict
+choice-some limits history account parent condition sets now r allowed is =
+    rw allowed (four-some (unprepared (conditions history) parent condition) (improper (conditions history) parent condition sets) (held parent condition) (deep parent) (later (question limits history account (Redeem parent condition sets) now)) r is)
+
+same-choice : (history : List Act) (parent key : Pairs) (condition : ℕ) (sets bits : List ℕ) (prepared : List Facts) → key ≡ parent → bits ≡ sets → prepared ≡ conditions history
+    → first_some (choice_refusals (conditions history) parent condition sets) ≡ first_some (choice_refusals prepared key condition bits)
+same-choice history parent key condition sets bits prepared one two three = λ i. first_some (choice_refusals (sym three i) (sym one i) condition (sym two i))
+
+pub choice-answered : (X Y : Type 0) (limits : Bounds) (history : List Act) (account : ℕ) (parent key : Pairs) (condition : ℕ) (sets bits : List ℕ) (now : ℕ) (prepared : List Facts) (r : Refusal) → (account == EXCHANGE) ≡ false
+    → key ≡ parent → bits ≡ sets → prepared ≡ conditions history → AnsweredBy {X = X} (first_some (choice_refusals prepared key condition bits)) (Err r)
+    → AnsweredBy {X = Y} (verdict (question limits history account (Redeem parent condition sets) now)) (Err r)
+choice-answered X Y limits history account parent key condition sets bits now prepared Memory allowed one two three by = tt
+choice-answered X Y limits history account parent key condition sets bits now prepared r allowed one two three by =
+    choice-some limits history account parent condition sets now r allowed (same-choice history parent key condition sets bits prepared one two three ∙ by)
+
+reported-or-not : (limits : Bounds) (history : List Act) (account : ℕ) (parent : Pairs) (condition : ℕ) (sets : List ℕ) (now : ℕ) (o : Option (List ℕ)) → let q : Question = question limits history account (Redeem parent condition sets) now in
+    numerators_on (reports history) condition ≡ o → first_some (later q) ≡ first_some (where_ (is_none o) NotReported ∷ supply_limit q ∷ entries_limit q ∷ where_ (nat_le limits.history (length history)) HistoryFull ∷ [])
+reported-or-not limits history account parent condition sets now None told = rw told refl
+reported-or-not limits history account parent condition sets now (Some ns) told = rw told refl
+
+-- behind them comes a condition that wasn't reported, and then what is refused at last
+pub redeem-front : (limits : Bounds) (history : List Act) (account : ℕ) (parent key : Pairs) (condition : ℕ) (sets bits : List ℕ) (now : ℕ) (prepared : List Facts) (o : Option (List ℕ)) → let q : Question = question limits history account (Redeem parent condition sets) now in
+    (account == EXCHANGE) ≡ false → key ≡ parent → bits ≡ sets → prepared ≡ conditions history → first_some (choice_refusals prepared key condition bits) ≡ None → numerators_on (reports history) condition ≡ o
+    → verdict q ≡ first_some (where_ (is_none o) NotReported ∷ supply_limit q ∷ entries_limit q ∷ where_ (nat_le limits.history (length history)) HistoryFull ∷ [])
+unfolding verdict
+redeem-front limits history account parent key condition sets bits now prepared o allowed one two three none told =
+    let here : first_some (choice_refusals (conditions history) parent condition sets) ≡ None = same-choice history parent key condition sets bits prepared one two three ∙ none in
+    rw allowed (four-none (unprepared (conditions history) parent condition) (improper (conditions history) parent condition sets) (held parent condition) (deep parent) (later (question limits history account (Redeem parent condition sets) now)) here
+    ∙ reported-or-not limits history account parent condition sets now o told)

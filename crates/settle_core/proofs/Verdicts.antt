@@ -1,8 +1,9 @@
 -- What follows from a verdict.
-use Rattle.std.proofs.Common.{◌≡◌, ℕ, ◌+◌, ◌<◌, ◌≤◌, List, [], ◌∷◌, length, Option, Some, None, refl, arith, Bool, true, false}
+use Rattle.std.proofs.Common.{◌≡◌, ℕ, ◌+◌, ◌<◌, ◌≤◌, List, [], ◌∷◌, ◌++◌, length, Option, Some, None, refl, arith, Bool, true, false}
 use Rattle.std.specs.Prelude.{nat_le, nat_lt, ◌&&◌, option_map, Err}
 use Rattle.std.proofs.lemmas.Bool.Decides.{nat_tests}
 use Rattle.collection_keys.specs.Collections.{Pairs}
+use Rattle.collection_keys.specs.declared.collection.TheConstants.{MAX_PAIRS}
 use Rattle.condition_sets.specs.declared.amount.TheConstants.{MAX_AMOUNT}
 use Rattle.command_words.proofs.Acts.{act-of-parts}
 use Rattle.command_words.specs.Command.{makes_act, is_act_form, may_be_act}
@@ -10,16 +11,16 @@ use Rattle.command_words.specs.Ranges.{is_short}
 use Rattle.command_words.specs.declared.command.Command.{Command}
 use Rattle.command_words.specs.declared.command.Command.TheVariants.{Deposit, Split, Merge, Move, Redeem, Place}
 use Rattle.command_words.specs.declared.refusal.Refusal.{Refusal}
-use Rattle.command_words.specs.declared.refusal.Refusal.TheVariants.{NoCondition, AlreadyPrepared, TableFull, BadSet, BadPartition, Held, TooDeep, Unfunded, VaultLimit, SupplyLimit, EntriesLimit, HistoryFull, Memory}
+use Rattle.command_words.specs.declared.refusal.Refusal.TheVariants.{NoCondition, AlreadyPrepared, TableFull, BadSet, BadPartition, Held, TooDeep, AlreadyReported, BadPayouts, NotReported, Unfunded, VaultLimit, SupplyLimit, EntriesLimit, HistoryFull, Memory}
 use Rattle.ledger_book.specs.Planning.{first_short}
 use Rattle.ledger_book.specs.Staging.{oversupplied}
-use Rattle.settle_core.specs.Book.{book, conditions, postings, postings_of}
+use Rattle.settle_core.specs.Book.{book, conditions, reports, postings, postings_of}
 use Rattle.settle_core.specs.Built.{is_built}
 use Rattle.settle_core.specs.Keys.{key_of, sets_of, is_held, most_pairs}
 use Rattle.settle_core.specs.Legal.{IsPlannable}
 use Rattle.settle_core.specs.Postings.{balance, supply, vault, deposit_of}
-use Rattle.settle_core.specs.Refusals.{Question, where_, not_allowed, names_none, no_condition, prepares_again, already_prepared, is_above_table, table_full, names_bad_set, bad_set, names_no_partition, bad_partition, already_held, too_deep, amount_of, taken_by, unfunded, is_above_vault, vault_limit, supply_limit, is_above_entries, entries_limit, history_full}
-use Rattle.settle_core.specs.Verdict.{verdict, first_some, refusals, AnsweredBy}
+use Rattle.settle_core.specs.Refusals.{Question, where_, not_allowed, names_none, no_condition, prepares_again, already_prepared, is_above_table, table_full, names_bad_set, bad_set, names_no_partition, bad_partition, already_held, too_deep, reports_again, already_reported, reports_badly, bad_payouts, redeems_early, not_reported, no_event, determined, no_market, no_order, not_open, order_expired, nonce_old, self_match, repeated_order, wrong_pair, not_crossing, overfill, exchange_short, too_little, still_funded, amount_of, taken_by, unfunded, is_above_vault, vault_limit, supply_limit, is_above_entries, entries_limit, history_full}
+use Rattle.settle_core.specs.Verdict.{verdict, first_some, AnsweredBy}
 
 -- a call that refuses by the verdict is answered by it
 pub answered-err : (X : Type 0) (given : Option Refusal) (refusal : Refusal) → given ≡ Some refusal → AnsweredBy {X = X} given (Err refusal)
@@ -27,7 +28,7 @@ answered-err X given Memory same = tt
 answered-err X given refusal same = same
 
 -- each of the list is none
-abbrev AreNone : {X : Type 0} → List (Option X) → Type 0
+abbrev pub AreNone : {X : Type 0} → List (Option X) → Type 0
 AreNone [] = Unit {0}
 AreNone (o ∷ os) = (o ≡ None) × AreNone os
 
@@ -36,10 +37,40 @@ first_some-all [] none = tt
 first_some-all (Some x ∷ os) none = cc
 first_some-all (None ∷ os) none = (refl, first_some-all os none)
 
+-- the refusals with lower numbers than that of a supply: 5 to 32
+abbrev pub earlier : Question → List (Option Refusal)
+earlier q =
+    not_allowed q ∷ no_condition q ∷ already_prepared q ∷ table_full q
+    ∷ bad_set q ∷ bad_partition q ∷ already_held q ∷ too_deep q
+    ∷ already_reported q ∷ bad_payouts q ∷ not_reported q ∷ no_event q ∷ determined q
+    ∷ no_market q ∷ no_order q ∷ not_open q ∷ order_expired q ∷ nonce_old q
+    ∷ self_match q ∷ repeated_order q ∷ wrong_pair q ∷ not_crossing q ∷ overfill q
+    ∷ unfunded q ∷ exchange_short q ∷ too_little q ∷ still_funded q
+    ∷ vault_limit q ∷ []
+
+-- and those from there on
+abbrev pub last : Question → List (Option Refusal)
+last q = supply_limit q ∷ entries_limit q ∷ history_full q ∷ []
+
+-- of a list and another behind it the first that is there
+front-none : {X : Type 0} (os ps : List (Option X)) → first_some (os ++ ps) ≡ None → AreNone os
+front-none [] ps none = tt
+front-none (Some x ∷ os) ps none = cc
+front-none (None ∷ os) ps none = (refl, front-none os ps none)
+
+behind-none : {X : Type 0} (os ps : List (Option X)) → first_some (os ++ ps) ≡ None → AreNone ps
+behind-none [] ps none = first_some-all ps none
+behind-none (Some x ∷ os) ps none = cc
+behind-none (None ∷ os) ps none = behind-none os ps none
+
 -- where nothing is refused, each condition is none
-none-refuses : (q : Question) → verdict q ≡ None → AreNone (refusals q)
+pub earlier-none : (q : Question) → verdict q ≡ None → AreNone (earlier q)
 unfolding verdict
-none-refuses q none = first_some-all (refusals q) none
+earlier-none q none = front-none (earlier q) (last q) none
+
+last-none : (q : Question) → verdict q ≡ None → AreNone (last q)
+unfolding verdict
+last-none q none = behind-none (earlier q) (last q) none
 
 -- a condition whose refusal isn't there doesn't hold
 where_-none : (holds : Bool) (refusal : Refusal) → where_ holds refusal ≡ None → holds ≡ false
@@ -53,7 +84,7 @@ and_right false b first both = cc
 -- an accepted command that makes an act finds the history within its limit
 pub accepted-within : (q : Question) → verdict q ≡ None → makes_act q.command ≡ true → length q.history < q.limits.history
 accepted-within q none acts =
-    let all = none-refuses q none in
+    let all = last-none q none in
     let full : history_full q ≡ None = assumption (all) in
     let room : nat_le q.limits.history (length q.history) ≡ false = and_right (makes_act q.command) (nat_le q.limits.history (length q.history)) acts (where_-none _ HistoryFull full) in
     grind (arith, nat_tests, room)
@@ -63,101 +94,106 @@ deposit-within held (Deposit to amount) funded below = grind (arith, nat_tests, 
 deposit-within held command funded below = omega arith
 
 -- an accepted command leaves the vault within its limit
-pub accepted-vault : (q : Question) → verdict q ≡ None → vault q.history ≤ MAX_AMOUNT → vault q.history + deposit_of q.command ≤ MAX_AMOUNT
-accepted-vault q none funded =
-    let all = none-refuses q none in
+pub accepted-vault : (q : Question) → AreNone (earlier q) → vault q.history ≤ MAX_AMOUNT → vault q.history + deposit_of q.command ≤ MAX_AMOUNT
+accepted-vault q all funded =
     let limit : vault_limit q ≡ None = assumption (all) in
     deposit-within (vault q.history) q.command funded (where_-none _ (VaultLimit (vault q.history)) limit)
 
 -- an accepted command prepares no condition again, and finds room in the table
-pub accepted-new : (q : Question) → verdict q ≡ None → prepares_again (conditions q.history) q.command ≡ false
-accepted-new q none =
-    let all = none-refuses q none in
+pub accepted-new : (q : Question) → AreNone (earlier q) → prepares_again (conditions q.history) q.command ≡ false
+accepted-new q all =
     let new : already_prepared q ≡ None = assumption (all) in
     where_-none _ AlreadyPrepared new
 
-pub accepted-table : (q : Question) → verdict q ≡ None → is_above_table q.limits.conditions (conditions q.history) q.command ≡ false
-accepted-table q none =
-    let all = none-refuses q none in
+pub accepted-table : (q : Question) → AreNone (earlier q) → is_above_table q.limits.conditions (conditions q.history) q.command ≡ false
+accepted-table q all =
     let room : table_full q ≡ None = assumption (all) in
     where_-none _ TableFull room
 
-map-none : {X Y : Type 0} (f : X → Y) (o : Option X) → option_map f o ≡ None → o ≡ None
+pub map-none : {X Y : Type 0} (f : X → Y) (o : Option X) → option_map f o ≡ None → o ≡ None
 map-none f None none = refl
 map-none f (Some x) none = cc
 
 -- an accepted command leaves every supply within its limit
 pub accepted-supply : (q : Question) → verdict q ≡ None → oversupplied (supply q.history) (postings_of (book q.history) q.account q.command) ≡ None
 accepted-supply q none =
-    let all = none-refuses q none in
+    let all = last-none q none in
     let within : supply_limit q ≡ None = assumption (all) in
     map-none SupplyLimit (oversupplied (supply q.history) (postings_of (book q.history) q.account q.command)) within
 
 -- an accepted command takes what is there
-pub accepted-funds : (q : Question) → verdict q ≡ None → first_short (balance q.history q.account) (amount_of q.command) (taken_by (conditions q.history) q.command) ≡ None
-accepted-funds q none =
-    let all = none-refuses q none in
+pub accepted-funds : (q : Question) → AreNone (earlier q) → first_short (balance q.history q.account) (amount_of q.command) (taken_by (conditions q.history) q.command) ≡ None
+accepted-funds q all =
     let funded : unfunded q ≡ None = assumption (all) in
     map-none (λ (short : ℕ × ℕ). Unfunded short.1 short.0) (first_short (balance q.history q.account) (amount_of q.command) (taken_by (conditions q.history) q.command)) funded
 
 -- an accepted command leaves as many balances as there may be
 pub accepted-entries : (q : Question) → verdict q ≡ None → is_above_entries q.limits.entries (postings q.history) (postings_of (book q.history) q.account q.command) ≡ false
 accepted-entries q none =
-    let all = none-refuses q none in
+    let all = last-none q none in
     let few : entries_limit q ≡ None = assumption (all) in
     where_-none _ EntriesLimit few
 
+-- an accepted report is of a condition that wasn't reported, and may be one
+pub accepted-first : (q : Question) → AreNone (earlier q) → reports_again (reports q.history) q.command ≡ false
+accepted-first q all =
+    let is : already_reported q ≡ None = assumption (all) in
+    where_-none _ AlreadyReported is
+
+pub accepted-payouts : (q : Question) → AreNone (earlier q) → reports_badly (conditions q.history) q.command ≡ false
+accepted-payouts q all =
+    let is : bad_payouts q ≡ None = assumption (all) in
+    where_-none _ BadPayouts is
+
+-- what an accepted redemption names was reported
+pub accepted-reported : (q : Question) → AreNone (earlier q) → redeems_early (reports q.history) q.command ≡ false
+accepted-reported q all =
+    let is : not_reported q ≡ None = assumption (all) in
+    where_-none _ NotReported is
+
 -- an accepted key isn't too deep
-pub accepted-depth : (q : Question) → verdict q ≡ None → nat_lt (most_pairs (sets_of q.command)) (length (key_of q.command)) ≡ false
-accepted-depth q none =
-    let all = none-refuses q none in
+pub accepted-depth : (q : Question) → AreNone (earlier q) → nat_lt (most_pairs (sets_of q.command)) (length (key_of q.command)) ≡ false
+accepted-depth q all =
     let deep : too_deep q ≡ None = assumption (all) in
     where_-none _ TooDeep deep
 
 -- what an accepted command splits and merges is a partition
-pub accepted-partition : (q : Question) → verdict q ≡ None → names_no_partition q.command ≡ false
-accepted-partition q none =
-    let all = none-refuses q none in
+pub accepted-partition : (q : Question) → AreNone (earlier q) → names_no_partition q.command ≡ false
+accepted-partition q all =
     let is : bad_partition q ≡ None = assumption (all) in
     where_-none _ BadPartition is
 
 -- its parent hasn't the condition
-pub accepted-free : (q : Question) → verdict q ≡ None → is_held (key_of q.command) (sets_of q.command) ≡ false
-accepted-free q none =
-    let all = none-refuses q none in
+pub accepted-free : (q : Question) → AreNone (earlier q) → is_held (key_of q.command) (sets_of q.command) ≡ false
+accepted-free q all =
     let free : already_held q ≡ None = assumption (all) in
     where_-none _ Held free
 
 -- its conditions are prepared, and its sets proper
-pub accepted-prepared : (q : Question) → verdict q ≡ None → names_none (conditions q.history) q.command ≡ false
-accepted-prepared q none =
-    let all = none-refuses q none in
+pub accepted-prepared : (q : Question) → AreNone (earlier q) → names_none (conditions q.history) q.command ≡ false
+accepted-prepared q all =
     let is : no_condition q ≡ None = assumption (all) in
     where_-none _ NoCondition is
 
-pub accepted-proper : (q : Question) → verdict q ≡ None → names_bad_set (conditions q.history) q.command ≡ false
-accepted-proper q none =
-    let all = none-refuses q none in
+pub accepted-proper : (q : Question) → AreNone (earlier q) → names_bad_set (conditions q.history) q.command ≡ false
+accepted-proper q all =
     let is : bad_set q ≡ None = assumption (all) in
     where_-none _ BadSet is
 
 short-parent : (parent : Pairs) → nat_lt 3 (length parent) ≡ false → is_short parent ≡ true
 short-parent parent few = grind (arith, nat_tests, few)
 
+short-key : (key : Pairs) → nat_lt MAX_PAIRS (length key) ≡ false → is_short key ≡ true
+short-key key few = grind (arith, nat_tests, few)
+
 -- an accepted command may be an act's
 pub accepted-may : (q : Question) → verdict q ≡ None → IsPlannable q.command → may_be_act q.command ≡ true
-accepted-may q none plannable = act-of-parts q.command plannable.makes_act plannable.in_ranges (formed q.command (accepted-depth q none) plannable.is_built)
+accepted-may q none plannable = act-of-parts q.command plannable.makes_act plannable.in_ranges (formed q.command (accepted-depth q (earlier-none q none)) plannable.is_built)
   where
     formed : (command : Command) → nat_lt (most_pairs (sets_of command)) (length (key_of command)) ≡ false → is_built command ≡ true → is_act_form command ≡ true
     formed (Split parent condition sets amount) few built = short-parent parent few
     formed (Merge parent condition sets amount) few built = short-parent parent few
-    formed (Move to key amount) few built = cc
-    formed (Redeem parent condition sets) few built = cc
+    formed (Move to key amount) few built = short-key key few
+    formed (Redeem parent condition sets) few built = short-parent parent few
     formed (Place market set side making taking expires nonce fee) few built = cc
     formed command few built = refl
-
--- a command that no earlier refusal meets is refused by what it would leave, or by a full history
-pub at-last : (q : Question) → makes_act q.command ≡ true → not_allowed q ≡ None → no_condition q ≡ None → already_prepared q ≡ None → table_full q ≡ None → bad_set q ≡ None → bad_partition q ≡ None → already_held q ≡ None → too_deep q ≡ None
-    → unfunded q ≡ None → vault_limit q ≡ None → verdict q ≡ first_some (supply_limit q ∷ entries_limit q ∷ where_ (nat_le q.limits.history (length q.history)) HistoryFull ∷ [])
-unfolding verdict
-at-last q act allowed prepared new room proper apart free shallow funds vault = rw (allowed, prepared, new, room, proper, apart, free, shallow, funds, vault, act) refl

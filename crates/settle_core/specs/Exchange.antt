@@ -1,16 +1,17 @@
 -- What contracts see of an exchange.
-use Rattle.std.specs.Prelude.{◌≡◌, ℕ, ◌<◌, List, pos}
+use Rattle.std.specs.Prelude.{◌≡◌, ℕ, ◌<◌, List, Option, Some, None, ℤ, pos, ◌-ℤ◌}
 use Rattle.command_words.specs.declared.command.Command.{Command}
+use Rattle.command_words.specs.declared.command.Command.TheVariants.{Report}
 use Rattle.command_words.specs.declared.act.Act.{Act}
 use Rattle.settle_core.specs.Book.{book, postings_of}
 use Rattle.settle_core.specs.Bounds.{Bounds}
+use Rattle.settle_core.specs.declared.changes.Changes.{Changes}
 use Rattle.settle_core.specs.Legal.{IsAccepted}
 use Rattle.settle_core.specs.Plan.{PlanView}
-use Rattle.settle_core.specs.Postings.{balance, deposit_of}
+use Rattle.settle_core.specs.Postings.{balance, deposit_of, withdrawal_of}
 use Rattle.settle_core.specs.Reply.{accepted_reply}
 use Rattle.ledger_book.specs.Ledger.{LedgerView, IsReady}
 use Rattle.ledger_book.specs.Postings.{IsFunded}
-use Rattle.ledger_book.specs.Staging.{StagedView}
 use Rattle.settle_core.specs.Refusals.{Question}
 
 -- its limits, its history, for how many acts more it has room without taking memory, and its ledger, which has room for
@@ -31,16 +32,26 @@ pub record IsSame (old new : ExchangeView) : Type 0 where
   pub limits : new.limits ≡ old.limits
   pub history : new.history ≡ old.history
 
--- the changes are those of a command of an account over a history, and what they take is there
-pub record AreChangesOf (history : List Act) (account : ℕ) (command : Command) (changes : StagedView) : Type 0 where
-  pub postings : changes.postings ≡ postings_of (book history) account command
-  pub vault : changes.vault ≡ pos (deposit_of command)
-  pub funded : IsFunded (balance history) changes.postings
+-- what a command does to the vault
+abbrev pub vault_change : Command → ℤ
+vault_change command = pos (deposit_of command) -ℤ pos (withdrawal_of command)
 
--- the plan is of an accepted command of the present history, with its changes and the reply to it, and there is room for it
+-- the numerators that a command reports, where it does
+abbrev pub numerators_of : Command → Option (List ℕ)
+numerators_of (Report condition payouts) = Some payouts
+numerators_of command = None
+
+-- the changes are those of a command of an account over a history, what they take is there, and the reply is the command's
+pub record AreChangesOf (history : List Act) (account : ℕ) (command : Command) (changes : Changes) : Type 0 where
+  pub postings : changes.staged.postings ≡ postings_of (book history) account command
+  pub vault : changes.staged.vault ≡ vault_change command
+  pub funded : IsFunded (balance history) changes.staged.postings
+  pub numerators : changes.numerators ≡ numerators_of command
+  pub reply : changes.reply ≡ accepted_reply history account command
+
+-- the plan is of an accepted command of the present history, with its changes, and there is room for it
 pub record IsPlanFor (state : ExchangeView) (plan : PlanView) : Type 0 where
   pub accepted : IsAccepted state.limits state.history plan.act
   pub changes : AreChangesOf state.history plan.act.account plan.act.command plan.changes
-  pub reply : plan.reply ≡ accepted_reply state.history plan.act.command
   pub room : 0 < state.room
-  pub ready : IsReady state.ledger plan.changes.postings
+  pub ready : IsReady state.ledger plan.changes.staged.postings

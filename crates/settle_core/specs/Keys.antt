@@ -10,7 +10,7 @@ use Rattle.condition_sets.specs.Sets.{first_overlap, union_of}
 use Rattle.condition_sets.specs.declared.partition.Union.{Union}
 use Rattle.condition_sets.specs.declared.partition.Union.TheVariants.{Full, Part}
 use Rattle.split_merge.specs.Splitting.{whole_of}
-use Rattle.settle_core.specs.declared.condition_table.facts.Facts.{Facts}
+use Rattle.condition_table.specs.declared.facts.Facts.{Facts}
 
 -- ---- what a command names
 

@@ -1,7 +1,7 @@
 pub mod Book
 pub mod Bounds
 pub mod Built
-pub mod Conditions
+pub mod Coverage
 pub mod Exchange
 pub mod Kept
 pub mod Keys

@@ -3,18 +3,18 @@
 use Rattle.std.specs.Prelude.{ℕ, zero, suc, ◌+◌, ◌-◌, ◌^◌, List, sum_by}
 use Rattle.collection_keys.specs.Collections.{Pairs}
 use Rattle.command_words.specs.declared.command.Command.{Command}
-use Rattle.command_words.specs.declared.command.Command.TheVariants.{Deposit}
+use Rattle.command_words.specs.declared.command.Command.TheVariants.{Deposit, Withdraw}
 use Rattle.command_words.specs.declared.act.Act.{Act}
-use Rattle.ledger_book.specs.Postings.{minted, burnt, credits, debits}
-use Rattle.settle_core.specs.Book.{postings}
+use Rattle.ledger_book.specs.Postings.{minted, burnt}
+use Rattle.settle_core.specs.Book.{book, held_in, postings}
 
 -- what all accounts hold of a collection
 abbrev pub supply : List Act → Pairs → ℕ
 supply history k = minted (postings history) k - burnt (postings history) k
 
--- what one account holds of a collection: all that was paid to it, less all that was taken
+-- what one account holds of a collection
 abbrev pub balance : List Act → ℕ → Pairs → ℕ
-balance history a k = credits (postings history) a k - debits (postings history) a k
+balance history a k = held_in (book history) a k
 
 -- the sum over the accounts below a number
 unfoldable pub over_accounts : ℕ → (ℕ → ℕ) → ℕ
@@ -30,6 +30,18 @@ abbrev pub deposit_of : Command → ℕ
 deposit_of (Deposit to amount) = amount
 deposit_of command = 0
 
--- what the vault holds: all that was paid in; nothing is paid out
+-- what a command pays out of the vault where it is accepted
+abbrev pub withdrawal_of : Command → ℕ
+withdrawal_of (Withdraw amount) = amount
+withdrawal_of command = 0
+
+-- all that was paid into the vault, and all that was paid out
+abbrev pub deposited : List Act → ℕ
+deposited history = sum_by (λ act. deposit_of act.command) history
+
+abbrev pub withdrawn : List Act → ℕ
+withdrawn history = sum_by (λ act. withdrawal_of act.command) history
+
+-- what the vault holds
 abbrev pub vault : List Act → ℕ
-vault history = sum_by (λ act. deposit_of act.command) history
+vault history = deposited history - withdrawn history

@@ -1,25 +1,25 @@
 -- The refusals of a command, each where its condition holds, in the order of their numbers. A rule names the commands
 -- for which it says something, and none of the others is refused by it.
-use Rattle.std.specs.Prelude.{◌==◌, ℕ, ◌+◌, ◌&&◌, ◌||◌, Bool, false, not, nat_lt, nat_le, if◌then◌else◌, List, [], ◌∷◌, ◌++◌, length, Option, Some, None, option_map, is_some}
+use Rattle.std.specs.Prelude.{◌==◌, ℕ, ◌+◌, ◌&&◌, ◌||◌, Bool, true, false, not, nat_lt, nat_le, if◌then◌else◌, List, [], ◌∷◌, ◌++◌, length, Option, Some, None, option_map, is_some, is_none, slice_get, sum}
 use Rattle.condition_sets.specs.declared.amount.TheConstants.{MAX_AMOUNT}
 use Rattle.condition_sets.specs.declared.names.TheConstants.{OPERATOR, EXCHANGE}
 use Rattle.command_words.specs.Command.{makes_act}
 use Rattle.command_words.specs.declared.command.Command.{Command}
-use Rattle.command_words.specs.declared.command.Command.TheVariants.{Deposit, Prepare, Split, Merge}
+use Rattle.command_words.specs.declared.command.Command.TheVariants.{Deposit, Withdraw, Move, Prepare, Split, Merge, Report, Redeem}
 use Rattle.command_words.specs.declared.act.Act.{Act}
 use Rattle.command_words.specs.declared.refusal.Refusal.{Refusal}
-use Rattle.command_words.specs.declared.refusal.Refusal.TheVariants.{NotAllowed, NoCondition, AlreadyPrepared, TableFull, BadSet, BadPartition, Held, TooDeep, Unfunded, VaultLimit, SupplyLimit, EntriesLimit, HistoryFull}
-use Rattle.settle_core.specs.declared.condition_table.facts.Facts.{Facts}
-use Rattle.settle_core.specs.Book.{book, conditions, postings, postings_of}
+use Rattle.command_words.specs.declared.refusal.Refusal.TheVariants.{NotAllowed, NoCondition, AlreadyPrepared, TableFull, BadSet, BadPartition, Held, TooDeep, AlreadyReported, BadPayouts, NotReported, Unfunded, VaultLimit, SupplyLimit, EntriesLimit, HistoryFull}
+use Rattle.condition_table.specs.declared.facts.Facts.{Facts}
+use Rattle.settle_core.specs.Book.{Payouts, book, conditions, reports, numerators_on, postings, postings_of}
 use Rattle.settle_core.specs.Bounds.{Bounds}
-use Rattle.settle_core.specs.Conditions.{place_of}
+use Rattle.condition_table.specs.Conditions.{place_of}
 use Rattle.settle_core.specs.Keys.{is_unprepared, is_improper, key_of, sets_of, key_is_unprepared, sets_are_unprepared, key_is_improper, sets_are_improper, is_no_partition, is_held, most_pairs, whole_in}
 use Rattle.settle_core.specs.Postings.{balance, supply, vault}
 use Rattle.ledger_book.specs.Entries.{entries_of}
 use Rattle.ledger_book.specs.Planning.{first_short}
 use Rattle.ledger_book.specs.Staging.{oversupplied}
 use Rattle.ledger_book.specs.declared.posting.Posting.{Posting}
-use Rattle.collection_keys.specs.Collections.{Pairs, part}
+use Rattle.collection_keys.specs.Collections.{Pairs, part, root}
 use Rattle.std.specs.List.{list_any}
 use Rattle.split_merge.specs.Splitting.{parts_of}
 
@@ -37,17 +37,25 @@ where_ holds refusal = if holds then Some refusal else None
 
 -- ---- 5 to 12
 
+-- a condition's oracle alone may report on it, where it is prepared
+abbrev pub may_report : Option Facts → ℕ → Bool
+may_report None account = true
+may_report (Some facts) account = facts.oracle == account
+
 -- who may ask a command: deposits are the operator's, and the exchange's own account takes no part
-abbrev pub may_ask : ℕ → Command → Bool
-may_ask account (Deposit to amount) = (account == OPERATOR) && not (to == EXCHANGE)
-may_ask account (Prepare oracle question slots) = not (account == EXCHANGE) && not (oracle == EXCHANGE)
-may_ask account command = not (account == EXCHANGE)
+abbrev pub may_ask : List Facts → ℕ → Command → Bool
+may_ask prepared account (Deposit to amount) = (account == OPERATOR) && not (to == EXCHANGE)
+may_ask prepared account (Move to key amount) = not (account == EXCHANGE) && not (to == EXCHANGE)
+may_ask prepared account (Prepare oracle question slots) = not (account == EXCHANGE) && not (oracle == EXCHANGE)
+may_ask prepared account (Report condition payouts) = not (account == EXCHANGE) && may_report (slice_get prepared condition) account
+may_ask prepared account command = not (account == EXCHANGE)
 
 abbrev pub not_allowed : Question → Option Refusal
-not_allowed q = where_ (not (may_ask q.account q.command)) NotAllowed
+not_allowed q = where_ (not (may_ask (conditions q.history) q.account q.command)) NotAllowed
 
 -- a condition that the command names isn't prepared
 abbrev pub names_none : List Facts → Command → Bool
+names_none prepared (Report condition payouts) = is_unprepared prepared condition
 names_none prepared command = key_is_unprepared prepared (key_of command) || sets_are_unprepared prepared (sets_of command)
 
 abbrev pub no_condition : Question → Option Refusal
@@ -93,6 +101,14 @@ already_held q = where_ (is_held (key_of q.command) (sets_of q.command)) Held
 abbrev pub too_deep : Question → Option Refusal
 too_deep q = where_ (nat_lt (most_pairs (sets_of q.command)) (length (key_of q.command))) TooDeep
 
+-- the refusals 6 to 12 of a command that names a parent and sets of any kind
+abbrev pub choice_refusals : List Facts → Pairs → ℕ → List ℕ → List (Option Refusal)
+choice_refusals prepared parent condition sets =
+    where_ (key_is_unprepared prepared parent || is_unprepared prepared condition) NoCondition
+    ∷ where_ (key_is_improper prepared parent || list_any (is_improper prepared condition) sets) BadSet
+    ∷ where_ (is_some (part parent condition)) Held
+    ∷ where_ (nat_lt 3 (length parent)) TooDeep ∷ []
+
 -- the refusals 6 to 12 of a command that names a parent and a partition
 abbrev pub partition_refusals : List Facts → Pairs → ℕ → List ℕ → List (Option Refusal)
 partition_refusals prepared parent condition sets =
@@ -102,16 +118,37 @@ partition_refusals prepared parent condition sets =
     ∷ where_ (is_some (part parent condition)) Held
     ∷ where_ (nat_lt 3 (length parent)) TooDeep ∷ []
 
--- ---- 13 to 27: no command that is carried out so far meets these
+-- ---- 13 to 15
+
+-- the condition has its numerators already
+abbrev pub reports_again : List Payouts → Command → Bool
+reports_again reported (Report condition payouts) = is_some (numerators_on reported condition)
+reports_again reported command = false
 
 abbrev pub already_reported : Question → Option Refusal
-already_reported q = None
+already_reported q = where_ (reports_again (reports q.history) q.command) AlreadyReported
+
+-- the numerators aren't one for each slot, or their sum is 0
+abbrev pub is_no_report : Option Facts → List ℕ → Bool
+is_no_report None payouts = false
+is_no_report (Some facts) payouts = not (length payouts == facts.slots) || (sum payouts == 0)
+
+abbrev pub reports_badly : List Facts → Command → Bool
+reports_badly prepared (Report condition payouts) = is_no_report (slice_get prepared condition) payouts
+reports_badly prepared command = false
 
 abbrev pub bad_payouts : Question → Option Refusal
-bad_payouts q = None
+bad_payouts q = where_ (reports_badly (conditions q.history) q.command) BadPayouts
+
+-- the condition has no numerators yet
+abbrev pub redeems_early : List Payouts → Command → Bool
+redeems_early reported (Redeem parent condition sets) = is_none (numerators_on reported condition)
+redeems_early reported command = false
 
 abbrev pub not_reported : Question → Option Refusal
-not_reported q = None
+not_reported q = where_ (redeems_early (reports q.history) q.command) NotReported
+
+-- ---- 16 to 27: no command that is carried out so far meets these
 
 abbrev pub no_event : Question → Option Refusal
 no_event q = None
@@ -153,11 +190,15 @@ overfill q = None
 
 -- the amount that a command takes of each of some collections of the caller, place by place
 abbrev pub amount_of : Command → ℕ
+amount_of (Withdraw amount) = amount
+amount_of (Move to key amount) = amount
 amount_of (Split parent condition sets amount) = amount
 amount_of (Merge parent condition sets amount) = amount
 amount_of command = 0
 
 abbrev pub taken_by : List Facts → Command → List Pairs
+taken_by prepared (Withdraw amount) = root ∷ []
+taken_by prepared (Move to key amount) = key ∷ []
 taken_by prepared (Split parent condition sets amount) = whole_in prepared parent condition sets ∷ []
 taken_by prepared (Merge parent condition sets amount) = parts_of parent condition sets
 taken_by prepared command = []

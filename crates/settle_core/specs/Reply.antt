@@ -1,27 +1,28 @@
 -- The replies, and what the history is after them.
-use Rattle.std.specs.Prelude.{◌≡◌, Bool, true, false, MatchBool, if◌then◌else◌, List, [], ◌∷◌, ◌++◌, length, Option, Some, None}
+use Rattle.std.specs.Prelude.{◌≡◌, ℕ, Bool, true, false, MatchBool, if◌then◌else◌, List, [], ◌∷◌, ◌++◌, length, Option, Some, None}
 use Rattle.command_words.specs.declared.command.Command.{Command}
-use Rattle.command_words.specs.declared.command.Command.TheVariants.{Prepare, Balance, Vault}
+use Rattle.command_words.specs.declared.command.Command.TheVariants.{Prepare, Redeem, Balance, Vault}
 use Rattle.command_words.specs.declared.act.Act.{Act}
 use Rattle.command_words.specs.declared.refusal.Refusal.{Refusal}
 use Rattle.command_words.specs.declared.refusal.Refusal.TheVariants.{Memory}
 use Rattle.command_words.specs.declared.reply.Reply.{Reply}
-use Rattle.command_words.specs.declared.reply.Reply.TheVariants.{Done, Prepared, Balanced, Vaulted, Refused}
+use Rattle.command_words.specs.declared.reply.Reply.TheVariants.{Done, Prepared, Redeemed, Balanced, Vaulted, Refused}
 use Rattle.command_words.specs.Command.{makes_act}
-use Rattle.settle_core.specs.Book.{conditions}
+use Rattle.settle_core.specs.Book.{book, conditions, reports, numerators_on, sums_in}
 use Rattle.settle_core.specs.Postings.{vault, balance}
 use Rattle.settle_core.specs.Refusals.{Question}
 use Rattle.settle_core.specs.Verdict.{verdict}
 
--- the reply to an accepted command, over the acts before it
-abbrev pub accepted_reply : List Act → Command → Reply
-accepted_reply history (Prepare oracle question slots) = Prepared (length (conditions history)) (length history)
-accepted_reply history (Balance holder key) = Balanced (balance history holder key) (length history)
-accepted_reply history Vault = Vaulted (length history) (vault history)
-accepted_reply history command = Done (length history)
+-- the reply to an accepted command of an account, over the acts before it
+abbrev pub accepted_reply : List Act → ℕ → Command → Reply
+accepted_reply history a (Prepare oracle question slots) = Prepared (length (conditions history)) (length history)
+accepted_reply history a (Redeem parent condition sets) = Redeemed (length history) (sums_in (book history) a parent condition sets (numerators_on (reports history) condition))
+accepted_reply history a (Balance holder key) = Balanced (balance history holder key) (length history)
+accepted_reply history a Vault = Vaulted (length history) (vault history)
+accepted_reply history a command = Done (length history)
 
 abbrev pub reply_by : Option Refusal → Question → Reply
-reply_by None q = accepted_reply q.history q.command
+reply_by None q = accepted_reply q.history q.account q.command
 reply_by (Some refusal) q = Refused refusal (length q.history)
 
 -- the reply that the rules give

@@ -4,25 +4,28 @@
 mod balance;
 mod deposit;
 mod merge;
+mod move_;
 mod prepare;
+mod redeem;
+mod report;
 mod split;
 mod vault;
+mod withdraw;
 
-ghost use Rattle.std.specs.Prelude.{◌≡◌, IfOk, ◌<◌, ◌+◌, ◌≤◌, ◌++◌, false, true};
-ghost use Rattle.command_words.specs.Command.{makes_act, in_ranges};
-ghost use Rattle.settle_core.specs.Book.{Book, conditions, prepared_by};
-ghost use Rattle.settle_core.specs.Built.{is_built};
-ghost use Rattle.settle_core.specs.Exchange.{asked, AreChangesOf};
+ghost use Rattle.std.specs.Prelude.{◌≡◌, IfOk, ◌<◌, ◌+◌, ◌≤◌, ◌++◌, List, false, true};
+ghost use Rattle.command_words.specs.Command.{in_ranges};
+ghost use Rattle.settle_core.specs.Book.{Book, Payouts, prepared_by, reported_by};
+ghost use Rattle.settle_core.specs.Exchange.{asked, numerators_of, AreChangesOf};
+ghost use Rattle.settle_core.specs.Kept.{AreReported, IsReportable};
 ghost use Rattle.settle_core.specs.Legal.{IsPlannable};
 ghost use Rattle.settle_core.specs.Refusals.{is_above_table, prepares_again};
-ghost use Rattle.settle_core.specs.Reply.{accepted_reply};
 ghost use Rattle.settle_core.specs.Verdict.{verdict, AnsweredBy};
 
-use crate::condition_table::Conditions;
+use crate::changes::Changes;
 use crate::exchange::Exchange;
-use command_words::{Command, Refusal, Reply};
-use condition_sets::AccountId;
-use ledger_book::Staged;
+use command_words::{Command, Refusal};
+use condition_sets::{AccountId, Bits};
+use condition_table::Conditions;
 
 impl Exchange {
     /// The changes that a command makes, or its refusal, the one with the lowest number first.
@@ -31,7 +34,7 @@ impl Exchange {
         account: AccountId,
         command: &Command,
         now: u64,
-    ) -> Result<Staged, Refusal>
+    ) -> Result<Changes, Refusal>
         requires { IsPlannable command.now }
 
         ensures verdict { AnsweredBy (verdict (asked self.now account command.now now)) result }
@@ -39,6 +42,10 @@ impl Exchange {
     {
         match command {
             Command::Deposit { to, amount } => self.changes_of_deposit(account, *to, *amount, now),
+            Command::Withdraw { amount } => self.changes_of_withdraw(account, *amount, now),
+            Command::Move { to, key, amount } => {
+                self.changes_of_move(account, *to, key, *amount, now)
+            }
             Command::Prepare {
                 oracle,
                 question,
@@ -56,35 +63,30 @@ impl Exchange {
                 sets,
                 amount,
             } => self.changes_of_merge(account, parent, *condition, sets, *amount, now),
+            Command::Report { condition, payouts } => {
+                self.changes_of_report(account, *condition, payouts, now)
+            }
+            Command::Redeem {
+                parent,
+                condition,
+                sets,
+            } => self.changes_of_redeem(account, parent, *condition, sets, now),
             _ => unreachable!(),
-        }
-    }
-
-    /// The reply to a command that is accepted.
-    pub(crate) fn accepted_reply(&self, command: &Command) -> Reply
-        requires act { makes_act command.now ≡ true }
-        requires fits { is_above_table self.now.limits.conditions (conditions self.now.history) command.now ≡ false }
-        ensures { result ≡ accepted_reply self.now.history command.now }
-    {
-        match command {
-            Command::Prepare { .. } => self.prepared_reply(),
-            Command::Balance { .. } => unreachable!(),
-            Command::Vault => unreachable!(),
-            _ => Reply::Done {
-                lsn: self.history.len() as u64,
-            },
         }
     }
 }
 
-/// Prepares the conditions that an accepted command prepares.
-pub(crate) fn prepare_for(conditions: &mut Conditions, command: &Command)
+/// Enters an accepted command into the table of conditions: the condition that it prepares, or what it reports.
+pub(crate) fn enter(conditions: &mut Conditions, command: &Command, numerators: Option<Bits>)
     requires ranges { in_ranges command.now ≡ true }
     requires new { prepares_again conditions.old.facts command.now ≡ false }
     requires within { is_above_table conditions.old.limit conditions.old.facts command.now ≡ false }
     requires room { 0 < conditions.old.room }
+    requires numerators { numerators ≡ numerators_of command.now }
+    requires report { IsReportable conditions.old.facts conditions.old.numerators command.now }
 
     ensures conditions { (book : Book) → conditions.new.facts ≡ conditions.old.facts ++ prepared_by book command.now }
+    ensures reports { (reports : List Payouts) → AreReported conditions.old.facts conditions.old.numerators reports → AreReported conditions.new.facts conditions.new.numerators (reports ++ reported_by command.now) }
     ensures limit { conditions.new.limit ≡ conditions.old.limit }
     ensures room { conditions.old.room ≤ conditions.new.room + 1 }
 {
@@ -94,6 +96,10 @@ pub(crate) fn prepare_for(conditions: &mut Conditions, command: &Command)
             question,
             slots,
         } => prepare::prepare(conditions, *oracle, *question, *slots),
+        Command::Report { condition, .. } => match numerators {
+            Some(numerators) => conditions.report(*condition, numerators),
+            None => unreachable!(),
+        },
         _ => {}
     }
 }

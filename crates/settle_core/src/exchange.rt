@@ -4,9 +4,12 @@ ghost use Rattle.collection_keys.specs.Collections.{Pairs};
 ghost use Rattle.command_words.specs.Command.{makes_act, in_ranges, may_be_act};
 ghost use Rattle.command_words.specs.Reply.{IsSound};
 ghost use Rattle.command_words.specs.declared.act.TheConstants.{MAX_HISTORY};
-ghost use Rattle.command_words.specs.declared.refusal.Refusal.TheVariants.{SupplyLimit, EntriesLimit, HistoryFull};
+ghost use Rattle.command_words.specs.declared.reply.Reply.TheVariants.{Done};
+ghost use Rattle.condition_sets.specs.declared.amount.TheConstants.{MAX_AMOUNT};
+ghost use Rattle.command_words.specs.declared.refusal.Refusal.TheVariants.{Unfunded, SupplyLimit, EntriesLimit, HistoryFull};
 ghost use Rattle.ledger_book.specs.Ledger.{amount_at, supply_at};
-ghost use Rattle.ledger_book.specs.Postings.{IsFunded};
+ghost use Rattle.ledger_book.specs.Planning.{first_short};
+ghost use Rattle.ledger_book.specs.Postings.{debit, AreWithin, IsFunded};
 ghost use Rattle.ledger_book.specs.Staging.{oversupplied};
 ghost use Rattle.settle_core.specs.Book.{conditions, postings};
 ghost use Rattle.settle_core.specs.Built.{is_built};
@@ -17,13 +20,16 @@ ghost use Rattle.settle_core.specs.Refusals.{where_, is_above_entries};
 ghost use Rattle.settle_core.specs.Reply.{act_of, accepted_reply, reply_to};
 ghost use Rattle.settle_core.specs.Verdict.{verdict, first_some, AnsweredBy};
 
-use crate::commands::prepare_for;
-use crate::condition_table::Conditions;
+use crate::changes::Changes;
+use crate::commands::enter;
 use crate::limits::Limits;
 use crate::plan::Plan;
+use collection_keys::Collection;
 use command_words::{Act, Acts, Command, Refusal, Reply};
 use condition_sets::{AccountId, ListOf, NoMemory};
-use ledger_book::{Ledger, LedgerFull, Staged};
+use condition_table::Conditions;
+use ledger_book::laws::net_amounts_grow_by_each_posting;
+use ledger_book::{DebitFault, Ledger, LedgerFull, Staged};
 use std::alloc::Global;
 use std::marker::Model;
 
@@ -89,25 +95,24 @@ impl Exchange {
         let copy = act.copy(self.alloc)?;
         self.history.reserve(1)?;
         self.conditions.reserve(1)?;
-        self.ledger.reserve(&changes)?;
-        let reply = self.accepted_reply(command);
-        Ok(Plan::new(act, copy, changes, reply))
+        self.ledger.reserve(&changes.staged)?;
+        Ok(Plan::new(act, copy, changes))
     }
 
     /// Makes the plan's act the last of the history, and answers the plan's reply. It takes no memory.
     pub fn apply(&mut self, plan: Plan) -> Reply
         requires { IsPlanFor self.old plan }
 
-        ensures reply { result ≡ plan.reply }
+        ensures reply { result ≡ plan.changes.reply }
         ensures sound { IsSound result }
         ensures history { self.new.history ≡ self.old.history ++ plan.act ∷ [] }
         ensures limits { self.new.limits ≡ self.old.limits }
     {
-        let (act, changes, reply) = plan.into_parts();
-        prepare_for(&mut self.conditions, &act.command);
-        self.ledger.commit(changes);
+        let (act, changes) = plan.into_parts();
+        enter(&mut self.conditions, &act.command, changes.numerators);
+        self.ledger.commit(changes.staged);
         self.history.push_reserved(act);
-        reply
+        changes.reply
     }
 
     /// Plans a command that makes an act and applies the plan. A refusal leaves the exchange as it was.
@@ -136,7 +141,7 @@ impl Exchange {
         requires ranges { in_ranges command.now ≡ true }
         requires built { is_built command.now ≡ true }
 
-        ensures ok { IfOk result (λ reply. reply ≡ accepted_reply self.now.history command.now) }
+        ensures ok { IfOk result (λ reply. reply ≡ accepted_reply self.now.history account command.now) }
         ensures verdict { (now : ℕ) → result_err result ≡ verdict (asked self.now account command.now now) }
         ensures sound { IfOk result IsSound }
     {
@@ -187,7 +192,7 @@ impl Exchange {
         account: AccountId,
         command: &Command,
         now: u64,
-    ) -> Result<Staged, Refusal>
+    ) -> Result<Changes, Refusal>
         requires { IsPlannable command.now }
 
         ensures verdict { AnsweredBy (verdict (asked self.now account command.now now)) result }
@@ -195,6 +200,43 @@ impl Exchange {
         ensures accepted { IfOk result (λ _. IsAccepted self.now.limits self.now.history (act_of (asked self.now account command.now now))) }
     {
         self.changes_of(account, command, now)
+    }
+
+    /// Stages what a command takes of one position of the caller, as its first posting, or refuses it at place 0.
+    pub(crate) fn take(
+        &self,
+        staged: &mut Staged,
+        account: AccountId,
+        k: &Collection,
+        amount: u64,
+    ) -> Result<(), Refusal>
+        requires new { staged.old.postings ≡ [] }
+        requires amount { amount ≤ MAX_AMOUNT }
+
+        ensures verdict { AnsweredBy (option_map (λ short. Unfunded short.1 short.0) (first_short (balance self.now.history account) amount (k.now ∷ []))) result }
+        ensures ok { OnOk result (staged.new ≡ record staged.old { postings = debit account k.now amount ∷ [] }) }
+        ensures funded { OnOk result (IsFunded (balance self.now.history) staged.new.postings) }
+        ensures within { OnOk result (AreWithin amount staged.new.postings) }
+    {
+        net_amounts_grow_by_each_posting();
+        match staged.debit(&self.ledger, account, k, amount) {
+            Ok(()) => Ok(()),
+            Err(DebitFault::Short { have }) => Err(Refusal::Unfunded { have, place: 0 }),
+            Err(DebitFault::Memory) => Err(Refusal::Memory),
+        }
+    }
+
+    /// The changes of a command that changes no condition, and that is answered by the number of its act.
+    pub(crate) fn done(&self, staged: Staged) -> Changes
+        ensures { result ≡ record { staged = staged; numerators = None; reply = Done (length self.now.history) } }
+    {
+        Changes {
+            staged,
+            numerators: None,
+            reply: Reply::Done {
+                lsn: self.history.len() as u64,
+            },
+        }
     }
 
     /// The refusal of changes that are staged: a supply above its limit, too many balances, or a full history.

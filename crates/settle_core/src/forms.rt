@@ -11,9 +11,13 @@ pub fn built(command: &Command) -> bool
 {
     match command {
         Command::Deposit { .. } => true,
+        Command::Withdraw { .. } => true,
+        Command::Move { .. } => true,
         Command::Prepare { .. } => true,
         Command::Split { .. } => true,
         Command::Merge { .. } => true,
+        Command::Report { .. } => true,
+        Command::Redeem { .. } => true,
         Command::Balance { .. } => true,
         Command::Vault => true,
         _ => false,

@@ -1,21 +1,22 @@
 //! Keys and sets that commands name, and what they stand for.
 
-ghost use Rattle.std.specs.Prelude.{◌≡◌, ◌==◌, ◌+◌, ◌≤◌, ◌^◌, if◌then◌else◌, false, true, length, All, None, Some, is_some, is_none, IfSome, IfOk};
+ghost use Rattle.std.specs.Prelude.{◌≡◌, ◌==◌, ◌+◌, ◌≤◌, ◌^◌, if◌then◌else◌, false, true, length, All, None, Some, is_some, is_none, slice_get, IfSome, IfOk, MatchOption};
 ghost use Rattle.std.specs.List.{list_any};
 ghost use Rattle.collection_keys.specs.Collections.{part, joined, is_ascending};
 ghost use Rattle.collection_keys.specs.declared.collection.TheConstants.{MAX_PAIRS};
 ghost use Rattle.condition_sets.specs.Sets.{IsProper, AreApart, union_of};
 ghost use Rattle.condition_sets.specs.declared.partition.Union.TheVariants.{Full, Part};
+ghost use Rattle.condition_sets.specs.declared.slot_count.TheConstants.{MAX_SLOTS};
 ghost use Rattle.settle_core.specs.Keys.{is_unprepared, key_is_unprepared, is_improper, is_improper_of, key_is_improper, is_no_partition, union_in};
-ghost use Rattle.settle_core.specs.Refusals.{partition_refusals};
+ghost use Rattle.settle_core.specs.Refusals.{choice_refusals, partition_refusals};
 ghost use Rattle.settle_core.specs.Verdict.{first_some, AnsweredBy};
 
-use crate::condition_table::{Conditions, Facts};
 use collection_keys::{Collection, MAX_PAIRS};
 use command_words::Refusal;
 use condition_sets::{
     ConditionId, IndexSet, NoMemory, PartitionFault, SlotCount, Union, check_partition,
 };
+use condition_table::{Conditions, Facts};
 use std::alloc::Global;
 
 /// The most pairs of a key to which a condition is joined.
@@ -27,6 +28,13 @@ pub(crate) struct Partition {
     pub(crate) parent: Collection,
     pub(crate) sets: Vec<IndexSet>,
     pub(crate) union: Union,
+}
+
+/// A parent and sets of a condition, as a command names them.
+#[derive(Drop)]
+pub(crate) struct Choice {
+    pub(crate) parent: Collection,
+    pub(crate) sets: Vec<IndexSet>,
 }
 
 /// The parent and the partition that a command names, or the refusal of them with the lowest number.
@@ -68,6 +76,45 @@ pub(crate) fn parted(
         parent: collection_of(conditions, parent),
         sets: parts,
         union,
+    })
+}
+
+/// The parent and the sets of a condition that a command names, or the refusal of them with the lowest number.
+pub(crate) fn chosen(
+    alloc: Global,
+    conditions: &Conditions,
+    parent: &[(u16, u32)],
+    condition: ConditionId,
+    sets: &[u32],
+) -> Result<Choice, Refusal>
+    requires { is_ascending parent.now ≡ true }
+
+    ensures verdict { AnsweredBy (first_some (choice_refusals conditions.now.facts parent.now condition sets.now)) result }
+    ensures parent { IfOk result (λ chosen. chosen.parent ≡ parent.now) }
+    ensures sets { IfOk result (λ chosen. chosen.sets.items ≡ sets.now) }
+    ensures proper { IfOk result (λ chosen. MatchOption (slice_get conditions.now.facts condition) ⊥ (λ facts. All (IsProper facts.slots) chosen.sets.items)) }
+    ensures slots { IfOk result (λ _. MatchOption (slice_get conditions.now.facts condition) ⊥ (λ facts. facts.slots ≤ MAX_SLOTS)) }
+{
+    if key_is_unprepared(conditions, parent) || conditions.len() <= condition.get() {
+        return Err(Refusal::NoCondition);
+    }
+    let Some(facts) = conditions.get(condition) else {
+        unreachable!()
+    };
+    // How many numerators a report on it has.
+    let _most = facts.slots.get();
+    if key_is_improper(conditions, parent) || sets_are_improper(&facts, sets) {
+        return Err(Refusal::BadSet);
+    }
+    if has(parent, condition) {
+        return Err(Refusal::Held);
+    }
+    if parent.len() > MAX_PARENT {
+        return Err(Refusal::TooDeep);
+    }
+    Ok(Choice {
+        parent: collection_of(conditions, parent),
+        sets: index_sets(alloc, &facts, sets)?,
     })
 }
 

@@ -1,14 +1,22 @@
 //! Laws of the rules: sentences about every history and every command, each proved once.
 
-ghost use Rattle.std.specs.Prelude.{◌≡◌, ℕ, ◌≤◌, List, Option, Some, None, Contains, All, true};
+ghost use Rattle.std.specs.Prelude.{◌≡◌, ℕ, ◌≤◌, List, Option, Some, None, Contains, All, true, false};
+ghost use Rattle.command_words.specs.Command.{in_ranges};
+ghost use Rattle.command_words.specs.Ranges.{is_account};
+ghost use Rattle.command_words.specs.Refusal.{code_of};
 ghost use Rattle.command_words.specs.declared.act.Act.{Act};
 ghost use Rattle.command_words.specs.declared.refusal.Refusal.{Refusal};
-ghost use Rattle.command_words.specs.Ranges.{is_account};
+ghost use Rattle.command_words.specs.declared.refusal.Refusal.TheVariants.{SupplyLimit};
 ghost use Rattle.collection_keys.specs.Collections.{Pairs, root};
+ghost use Rattle.coverage_law.specs.Need.{held_worth, need};
+ghost use Rattle.coverage_law.specs.Outcomes.{Outcome, IsLawful};
+ghost use Rattle.ledger_book.specs.Entries.{AreEntries};
+ghost use Rattle.ledger_book.specs.Staging.{is_above_supply};
+ghost use Rattle.settle_core.specs.Book.{book, conditions, postings, postings_of};
 ghost use Rattle.settle_core.specs.Bounds.{Bounds, standard};
-ghost use Rattle.settle_core.specs.Postings.{supply, held_by_all, vault};
+ghost use Rattle.settle_core.specs.Coverage.{CanPay};
 ghost use Rattle.settle_core.specs.Legal.{IsLegal};
-ghost use Rattle.command_words.specs.Refusal.{code_of};
+ghost use Rattle.settle_core.specs.Postings.{balance, supply, held_by_all, vault};
 ghost use Rattle.settle_core.specs.Refusals.{Question};
 ghost use Rattle.settle_core.specs.Verdict.{Applies, refusals, verdict};
 
@@ -19,9 +27,22 @@ pub fn lowest_refusal()
     ensures none { (q : Question) (refusal : Refusal) → verdict q ≡ None → Applies q refusal → ⊥ }
 {}
 
-/// The cash of all accounts together is at most what the vault holds.
+/// For every lawful outcome, of which there is one at the least, the vault covers what all holdings are worth, and it is
+/// exactly that where nothing was reported. What all holdings are worth is the sum of balance times worth over the
+/// positions that hold anything, each once.
+pub fn holdings_are_covered()
+    ensures covered { (limits : Bounds) (history : List Act) → IsLegal limits history → CanPay history }
+    ensures possible { (limits : Bounds) (history : List Act) → IsLegal limits history → (outcome : Outcome) × IsLawful (conditions history) outcome }
+    ensures held { (limits : Bounds) (history : List Act) (value : Pairs → ℕ) (positions : List (ℕ × Pairs)) → IsLegal limits history → AreEntries (balance history) positions
+        → held_worth value (balance history) positions ≡ need value (postings history) }
+{}
+
+/// The cash of all accounts together is at most what the vault holds, and a command that is refused for a supply isn't
+/// refused for that of cash.
 pub fn cash_is_covered()
-    ensures { (limits : Bounds) (history : List Act) → IsLegal limits history → supply history root ≤ vault history }
+    ensures vault { (limits : Bounds) (history : List Act) → IsLegal limits history → supply history root ≤ vault history }
+    ensures limit { (q : Question) (supplied : ℕ) → IsLegal q.limits q.history → in_ranges q.command ≡ true → verdict q ≡ Some (SupplyLimit supplied)
+        → is_above_supply (supply q.history) (postings_of (book q.history) q.account q.command) root ≡ false }
 {}
 
 /// The supply of a collection is what all accounts together hold of it.

@@ -5,8 +5,8 @@
 //! totals that it keeps are told only as what the history gives.
 #![tactic(auto)]
 
+mod changes;
 mod commands;
-mod condition_table;
 mod exchange;
 mod forms;
 mod keys;
@@ -15,7 +15,6 @@ mod limits;
 mod plan;
 mod replay;
 
-pub use condition_table::{Conditions, Facts};
 pub use exchange::Exchange;
 pub use forms::built;
 pub use limits::Limits;

@@ -1,16 +1,15 @@
 ghost use Rattle.std.specs.Prelude.{◌≡◌, None, Some, IsSome};
 
-use command_words::{Act, Reply};
-use ledger_book::Staged;
+use crate::changes::Changes;
+use command_words::Act;
 use std::marker::Model;
 
-/// An accepted command that is ready to become the next act, with the reply to it.
+/// An accepted command that is ready to become the next act, with its changes and the reply to it.
 #[derive(Drop)]
 pub struct Plan {
     act: Act,
     copy: Option<Act>,
-    changes: Staged,
-    reply: Reply,
+    changes: Changes,
 }
 
 impl Model for Plan {
@@ -18,19 +17,18 @@ impl Model for Plan {
 
     ghost Value = { PlanView };
 
-    ghost view = { λ p. record { act = p.act; copy = p.copy; changes = p.changes; reply = p.reply } };
+    ghost view = { λ p. record { act = p.act; copy = p.copy; changes = p.changes } };
 }
 
 impl Plan {
-    /// The plan of an act, with a copy of it, its changes and the reply.
-    pub(crate) fn new(act: Act, copy: Act, changes: Staged, reply: Reply) -> Plan
-        ensures { result ≡ record { act = act; copy = Some copy; changes = changes; reply = reply } }
+    /// The plan of an act, with a copy of it and its changes.
+    pub(crate) fn new(act: Act, copy: Act, changes: Changes) -> Plan
+        ensures { result ≡ record { act = act; copy = Some copy; changes = changes } }
     {
         Plan {
             act,
             copy: Some(copy),
             changes,
-            reply,
         }
     }
 
@@ -53,12 +51,11 @@ impl Plan {
         }
     }
 
-    /// The act, its changes and the reply.
-    pub(crate) fn into_parts(self) -> (Act, Staged, Reply)
+    /// The act and its changes.
+    pub(crate) fn into_parts(self) -> (Act, Changes)
         ensures act { result.0 ≡ self.act }
         ensures changes { result.1 ≡ self.changes }
-        ensures reply { result.2 ≡ self.reply }
     {
-        (self.act, self.changes, self.reply)
+        (self.act, self.changes)
     }
 }

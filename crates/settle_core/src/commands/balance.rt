@@ -26,7 +26,7 @@ impl Exchange {
     ) -> Result<Reply, Refusal>
         requires { in_ranges (Balance of key.now) ≡ true }
 
-        ensures ok { IfOk result (λ reply. reply ≡ accepted_reply self.now.history (Balance of key.now)) }
+        ensures ok { IfOk result (λ reply. reply ≡ accepted_reply self.now.history account (Balance of key.now)) }
         ensures verdict { (now : ℕ) → result_err result ≡ verdict (asked self.now account (Balance of key.now) now) }
         ensures sound { IfOk result IsSound }
     {

@@ -6,6 +6,7 @@ ghost use Rattle.command_words.specs.declared.command.Command.TheVariants.{Depos
 ghost use Rattle.settle_core.specs.Exchange.{asked, AreChangesOf};
 ghost use Rattle.settle_core.specs.Verdict.{verdict, AnsweredBy};
 
+use crate::changes::Changes;
 use crate::exchange::Exchange;
 use collection_keys::Collection;
 use command_words::Refusal;
@@ -21,7 +22,7 @@ impl Exchange {
         to: AccountId,
         amount: u64,
         now: u64,
-    ) -> Result<Staged, Refusal>
+    ) -> Result<Changes, Refusal>
         requires { amount ≤ MAX_AMOUNT }
 
         ensures verdict { AnsweredBy (verdict (asked self.now account (Deposit to amount) now)) result }
@@ -40,7 +41,7 @@ impl Exchange {
         staged.change_vault(i128::from(amount));
         match self.refusal_at_last(&staged) {
             Some(refusal) => Err(refusal),
-            None => Ok(staged),
+            None => Ok(self.done(staged)),
         }
     }
 }

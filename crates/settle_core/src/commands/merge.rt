@@ -6,6 +6,7 @@ ghost use Rattle.command_words.specs.declared.command.Command.TheVariants.{Merge
 ghost use Rattle.settle_core.specs.Exchange.{asked, AreChangesOf};
 ghost use Rattle.settle_core.specs.Verdict.{verdict, AnsweredBy};
 
+use crate::changes::Changes;
 use crate::exchange::Exchange;
 use crate::keys::parted;
 use command_words::Refusal;
@@ -22,7 +23,7 @@ impl Exchange {
         sets: &Bits,
         amount: u64,
         now: u64,
-    ) -> Result<Staged, Refusal>
+    ) -> Result<Changes, Refusal>
         requires { in_ranges (Merge parent.now condition sets.now amount) ≡ true }
 
         ensures verdict { AnsweredBy (verdict (asked self.now account (Merge parent.now condition sets.now amount) now)) result }
@@ -63,7 +64,7 @@ impl Exchange {
         }
         match self.refusal_at_last(&staged) {
             Some(refusal) => Err(refusal),
-            None => Ok(staged),
+            None => Ok(self.done(staged)),
         }
     }
 }

@@ -3,15 +3,16 @@
 ghost use Rattle.std.specs.Prelude.{◌≡◌, ◌≤◌, ◌<◌, ◌+◌, ◌++◌, ◌∷◌, [], length, None, IfOk};
 ghost use Rattle.condition_sets.specs.declared.slot_count.TheConstants.{MIN_SLOTS, MAX_SLOTS};
 ghost use Rattle.settle_core.specs.Book.{conditions};
-ghost use Rattle.settle_core.specs.Conditions.{place_of};
+ghost use Rattle.condition_table.specs.Conditions.{place_of};
 ghost use Rattle.command_words.specs.declared.command.Command.TheVariants.{Prepare};
 ghost use Rattle.settle_core.specs.Exchange.{asked, AreChangesOf};
 ghost use Rattle.settle_core.specs.Verdict.{verdict, AnsweredBy};
 
-use crate::condition_table::Conditions;
+use crate::changes::Changes;
 use crate::exchange::Exchange;
 use command_words::{Refusal, Reply};
 use condition_sets::{AccountId, ConditionId, EXCHANGE, SlotCount};
+use condition_table::Conditions;
 use ledger_book::Staged;
 
 impl Exchange {
@@ -23,7 +24,7 @@ impl Exchange {
         question: u64,
         slots: u8,
         now: u64,
-    ) -> Result<Staged, Refusal>
+    ) -> Result<Changes, Refusal>
         requires at_least { MIN_SLOTS ≤ slots }
         requires at_most { slots ≤ MAX_SLOTS }
 
@@ -45,11 +46,15 @@ impl Exchange {
         if self.is_full() {
             return Err(Refusal::HistoryFull);
         }
-        Ok(Staged::new(self.alloc)?)
+        Ok(Changes {
+            staged: Staged::new(self.alloc)?,
+            numerators: None,
+            reply: self.prepared_reply(),
+        })
     }
 
     /// The reply to a preparation that is accepted.
-    pub(crate) fn prepared_reply(&self) -> Reply
+    fn prepared_reply(&self) -> Reply
         requires { length (conditions self.now.history) < self.now.limits.conditions }
         ensures { result ≡ Reply.Prepared (length (conditions self.now.history)) (length self.now.history) }
     {
@@ -71,6 +76,7 @@ pub(crate) fn prepare(conditions: &mut Conditions, oracle: AccountId, question: 
     requires within { length conditions.old.facts < conditions.old.limit }
     requires room { 0 < conditions.old.room }
 
+    ensures numerators { conditions.new.numerators ≡ conditions.old.numerators ++ None ∷ [] }
     ensures conditions { conditions.new.facts ≡ conditions.old.facts ++ record { oracle = oracle; question = question; slots = slots } ∷ [] }
     ensures limit { conditions.new.limit ≡ conditions.old.limit }
     ensures room { conditions.old.room ≤ conditions.new.room + 1 }

@@ -16,7 +16,7 @@ impl Exchange {
     /// The reply to a question for the vault, or its refusal.
     #[tactic(auto, unfolding(crate::specs::Verdict::verdict))]
     pub(crate) fn read_vault(&self, account: AccountId) -> Result<Reply, Refusal>
-        ensures ok { IfOk result (λ reply. reply ≡ accepted_reply self.now.history Vault) }
+        ensures ok { IfOk result (λ reply. reply ≡ accepted_reply self.now.history account Vault) }
         ensures verdict { (now : ℕ) → result_err result ≡ verdict (asked self.now account Vault now) }
         ensures sound { IfOk result IsSound }
     {

@@ -1,5 +1,8 @@
-use Rattle.settle_core.proofs.Cash.{cash}
+use Rattle.settle_core.proofs.Coverage.{cash, cash-fits}
 use Rattle.settle_core.proofs.laws.cash_is_covered.Goals as goal
 
-pub returns : goal.returns
-returns c = cash
+pub returns-clause-vault : goal.returns-clause-vault
+returns-clause-vault c = cash
+
+pub returns-clause-limit : goal.returns-clause-limit
+returns-clause-limit c = cash-fits

@@ -2,7 +2,7 @@ use Rattle.std.proofs.Common.{◌≡◌, None, [], ◌∷◌, rules, tests, sym,
 use Rattle.collection_keys.specs.Collections.{root}
 use Rattle.command_words.specs.declared.command.Command.TheVariants.{Deposit}
 use Rattle.ledger_book.specs.Postings.{credit}
-use Rattle.ledger_book.specs.Staging.{StagedView}
+use Rattle.settle_core.specs.declared.changes.Changes.{Changes}
 use Rattle.settle_core.specs.Exchange.{asked}
 use Rattle.settle_core.specs.Refusals.{not_allowed, vault_limit}
 use Rattle.settle_core.proofs.KeptLemmas.{last_refusals}
@@ -17,4 +17,4 @@ returns-in-Some-clause-verdict c =
     let allowed : not_allowed q ≡ None = search (rules, tests) in
     let vault : vault_limit q ≡ None = search (rules, tests) in
     let posted : credit c.args.to root c.args.amount ∷ [] ≡ c.change_vault.new.self.postings = search rules in
-    answered-err StagedView _ c.in-Some.refusal (deposit-last s.limits s.history c.args.account c.args.to c.args.amount c.args.now allowed vault ∙ ap (λ ps. last_refusals s.limits s.history ps) posted ∙ sym c.refusal_at_last.ensures ∙ c.in-Some.is)
+    answered-err Changes _ c.in-Some.refusal (deposit-last s.limits s.history c.args.account c.args.to c.args.amount c.args.now allowed vault ∙ ap (λ ps. last_refusals s.limits s.history ps) posted ∙ sym c.refusal_at_last.ensures ∙ c.in-Some.is)

@@ -6,7 +6,7 @@ use Rattle.condition_sets.specs.declared.names.TheConstants.{EXCHANGE}
 use Rattle.ledger_book.specs.Ledger.{amount_at}
 use Rattle.ledger_book.specs.Planning.{first_short, PlannedBy}
 use Rattle.ledger_book.specs.declared.plan_fault.PlanFault.{PlanFault}
-use Rattle.ledger_book.specs.Staging.{StagedView}
+use Rattle.settle_core.specs.declared.changes.Changes.{Changes}
 use Rattle.split_merge.specs.Splitting.{whole_of, parts_of, merge_postings}
 use Rattle.settle_core.specs.Book.{book, conditions, postings_of}
 use Rattle.settle_core.specs.Exchange.{ExchangeView, asked}
@@ -27,8 +27,8 @@ pub returns-in-Err-clause-verdict : goal.returns-in-Err-clause-verdict
 returns-in-Err-clause-verdict c =
     let e = c.self.inside in
     let allowed : (c.args.account == EXCHANGE) ≡ false = search (rules, tests) in
-    subst (λ (s : ExchangeView). AnsweredBy {X = StagedView} (verdict (asked s c.args.account (Merge c.args.parent.now c.args.condition c.args.sets.now c.args.amount) c.args.now)) (Err c.in-Err.refusal)) c.self.view_is
-    (front-answered Partition StagedView true e.limits e.history.items c.args.account c.args.parent.now c.as_slice.result.now c.args.condition c.args.sets.now c.as_slice-2.result.now c.args.amount c.args.now e.conditions.facts c.in-Err.refusal allowed
+    subst (λ (s : ExchangeView). AnsweredBy {X = Changes} (verdict (asked s c.args.account (Merge c.args.parent.now c.args.condition c.args.sets.now c.args.amount) c.args.now)) (Err c.in-Err.refusal)) c.self.view_is
+    (front-answered Partition Changes true e.limits e.history.items c.args.account c.args.parent.now c.as_slice.result.now c.args.condition c.args.sets.now c.as_slice-2.result.now c.args.amount c.args.now e.conditions.facts c.in-Err.refusal allowed
     c.as_slice.ensures c.as_slice-2.ensures c.self.invariant.conditions c.in-Err.ensures.verdict)
 
 pub returns-in-Err-Short-clause-verdict : goal.returns-in-Err-Short-clause-verdict
@@ -70,7 +70,7 @@ returns-in-Some-refusal_at_last-clause-verdict c =
     let posted : c.plan_merge.new.s.postings ≡ postings_of (book h) c.args.account (Merge c.args.parent.now c.args.condition c.args.sets.now c.args.amount) = c.in-Ok-plan_merge.ensures.ok ∙ (λ i. merge_postings c.args.account (sym whole i) (sym parts i) (sym number i)) in
     let here : verdict q ≡ last_refusals e.limits h c.plan_merge.new.s.postings = verdict_is ∙ ap (last_refusals e.limits h) (sym posted) in
     let there = subst (λ (s : ExchangeView). verdict (asked s c.args.account (Merge c.args.parent.now c.args.condition c.args.sets.now c.args.amount) c.args.now) ≡ last_refusals s.limits s.history c.plan_merge.new.s.postings) c.self.view_is here in
-    answered-err StagedView _ c.in-Some-refusal_at_last.refusal (there ∙ (sym c.refusal_at_last.ensures ∙ c.in-Some-refusal_at_last.is))
+    answered-err Changes _ c.in-Some-refusal_at_last.refusal (there ∙ (sym c.refusal_at_last.ensures ∙ c.in-Some-refusal_at_last.is))
 
 pub returns-clause-verdict : goal.returns-clause-verdict
 returns-clause-verdict c =
