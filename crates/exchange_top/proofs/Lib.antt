@@ -1,5 +1,6 @@
 mod Damages
 mod Endings
+mod Payments
 mod Recoveries
 mod Runs
 mod Stores

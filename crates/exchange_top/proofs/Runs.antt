@@ -20,6 +20,7 @@ use Rattle.journal_disk.specs.Steps.{GoesOn}
 use Rattle.journal_store.specs.Journal.{JournalView}
 use Rattle.settle_core.specs.Bounds.{Bounds, standard}
 use Rattle.settle_core.specs.Legal.{IsLegal}
+use Rattle.exchange_top.proofs.Payments.{answered-pay, front-pays}
 use Rattle.exchange_top.proofs.Turns.{IsSmallStep, line-step}
 use Rattle.exchange_top.proofs.Stores.{Storing, goes_on-trans, stored-holds, whole-answered, lost-answered, step-longer, step-take, storing-since}
 use Rattle.exchange_top.specs.declared.serving.TheConstants.{MAX_INPUT}
@@ -272,6 +273,8 @@ served drive is_drive disk first status turns lines more history last before nex
     kept = over.kept;
     whole = over.whole;
     since = since-began drive is_drive disk first status turns lines history last over;
+    pays = λ honest. answered-pay (drive last).image (take lines turns) history legal (over.kept honest);
+    paid_since = λ honest stored. front-pays ((drive last).image_since (drive disk).moment) (length first) history legal (since-began drive is_drive disk first status turns lines history last over honest stored);
   };
   from_first = refl;
   front = over.front;

@@ -11,6 +11,7 @@ use Rattle.journal_store.specs.Found.{IsForeign, StandsAs}
 use Rattle.command_words.specs.Reply.{rests_of}
 use Rattle.command_words.specs.declared.act.Act.{Act}
 use Rattle.settle_core.specs.Bounds.{standard}
+use Rattle.settle_core.specs.Coverage.{CanPay}
 use Rattle.settle_core.specs.Legal.{IsLegal}
 use Rattle.exchange_top.specs.declared.ended.Ended.{Ended}
 use Rattle.exchange_top.specs.EndText.{end_text}
@@ -83,6 +84,10 @@ pub record HoldsAnswered (turns : List Turn) (history : List Act) (image : List 
   pub answered : All (λ turn. rests_of turn.reply ≤ acts) turns
   pub within : acts ≤ length history
 
+-- whatever history one of these images holds, each act of it was accepted, and its vault can pay all that is held there
+abbrev pub AllCanPay : (List ℕ → Type 0) → Type 0
+AllCanPay images = (image : List ℕ) (history : List Act) → images image → Holds image history → IsLegal standard history × CanPay history
+
 -- A run that opened its journal: there were these turns, which lead from the recovered history to the last one.
 pub record Ran {D : Type 0} (drive : D → Drive) (disk : D) (ended : Ended D) (before after : Outside) : Type 0 where
   pub first : List Act
@@ -108,6 +113,9 @@ pub record Ran {D : Type 0} (drive : D → Drive) (disk : D) (ended : Ended D) (
   pub whole : Honestly (drive disk) ((ended.status ≡ DiskFault → ⊥) → (image : List ℕ) → (drive ended.disk).image image → Holds image history)
   -- where nothing was pending, a crash since the run began left the recovered history at the least
   pub since : Honestly (drive disk) (IsStored (drive disk) → (image : List ℕ) → (drive ended.disk).image_since (drive disk).moment image → HoldsFront (length first) history image)
+  -- whatever a crash leaves, the vault there can pay all that is held there, whichever slots win
+  pub pays : Honestly (drive disk) (AllCanPay (drive ended.disk).image)
+  pub paid_since : Honestly (drive disk) (IsStored (drive disk) → AllCanPay ((drive ended.disk).image_since (drive disk).moment))
 
 -- the bytes of the disk are the cause of this status, where they can be: the journal gives no history
 abbrev pub IsDamaged : Status → List ℕ → Type 0
