@@ -1,3 +1,4 @@
+pub mod Conversions
 pub mod Holdings
 pub mod Needs
 mod Products

@@ -36,7 +36,7 @@ abbrev factors : Results → Outcome → Pairs → ℕ → ℕ
 factors results outcome k c = factor_of (results.numerators c) (outcome c) (part k c)
 
 -- what all conditions but one make of a collection
-abbrev rest_of : Results → Outcome → Pairs → ℕ → ℕ
+abbrev pub rest_of : Results → Outcome → Pairs → ℕ → ℕ
 rest_of results outcome k c = others results.conditions (factors results outcome k) c
 
 -- a worth is the factor of one condition times the rest
@@ -45,13 +45,13 @@ unfolding worth
 worth-out results outcome k c below = product-out results.conditions (factors results outcome k) c below
 
 -- of a collection without the condition that factor is its denominator
-worth-free : (results : Results) (outcome : Outcome) (k : Pairs) (c : ℕ) → c < results.conditions → part k c ≡ None
+pub worth-free : (results : Results) (outcome : Outcome) (k : Pairs) (c : ℕ) → c < results.conditions → part k c ≡ None
     → worth results outcome k ≡ denominator_of (results.numerators c) * rest_of results outcome k c
 worth-free results outcome k c below free =
     worth-out results outcome k c below ∙ ap (λ p. factor_of (results.numerators c) (outcome c) p * rest_of results outcome k c) free
 
 -- joined with a set of the condition it is the set's share, and the rest is as before
-worth-joined : (results : Results) (outcome : Outcome) (k : Pairs) (c set : ℕ) → c < results.conditions → part k c ≡ None
+pub worth-joined : (results : Results) (outcome : Outcome) (k : Pairs) (c set : ℕ) → c < results.conditions → part k c ≡ None
     → worth results outcome (joined k c set) ≡ share_of (results.numerators c) (outcome c) set * rest_of results outcome k c
 worth-joined results outcome k c set below free =
     let here : factors results outcome (joined k c set) c ≡ share_of (results.numerators c) (outcome c) set

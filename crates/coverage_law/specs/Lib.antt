@@ -1,3 +1,4 @@
 pub mod Need
 pub mod Outcomes
 pub mod Worth
+pub mod Questions

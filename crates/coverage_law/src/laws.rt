@@ -8,11 +8,13 @@ ghost use Rattle.collection_keys.specs.Collections.{Pairs, root, part, joined};
 ghost use Rattle.condition_sets.specs.Sets.{AreApart, union_of};
 ghost use Rattle.condition_table.specs.Shares.{numerators_in, weighted};
 ghost use Rattle.condition_table.specs.declared.facts.Facts.{Facts};
+ghost use Rattle.convert_positions.specs.Converting.{IsChoice, convert_postings};
 ghost use Rattle.ledger_book.specs.Entries.{AreEntries};
 ghost use Rattle.ledger_book.specs.Postings.{credit, credits, debits, IsFunded};
 ghost use Rattle.ledger_book.specs.declared.posting.Posting.{Posting};
 ghost use Rattle.coverage_law.specs.Need.{paid_worth, taken_worth, need, held_worth};
-ghost use Rattle.coverage_law.specs.Outcomes.{Outcome, IsLawful, with_slot};
+ghost use Rattle.coverage_law.specs.Outcomes.{Outcome, IsLawful, winners, with_slot};
+ghost use Rattle.coverage_law.specs.Questions.{AreQuestions};
 ghost use Rattle.coverage_law.specs.Worth.{Results, worth, denominator, denominator_of, prepared, reported};
 
 /// What all holdings are worth is the sum of balance times worth over the positions that hold anything, each once.
@@ -62,4 +64,13 @@ pub fn report_weighs_the_slots()
 pub fn redemption_loses_the_floor_alone()
     ensures { (results : Results) (outcome : Outcome) (k : Pairs) (c set amount : ℕ) (ns : List ℕ) → c < results.conditions → part k c ≡ None → results.numerators c ≡ Some ns → 0 < sum ns
         → (amount * numerators_in ns set / sum ns) * worth results outcome k ≤ amount * worth results outcome (joined k c set) }
+{}
+
+/// A conversion takes just what it pays where one of the event's questions comes out YES; where none does, it takes the
+/// amount more.
+pub fn conversion_keeps_the_need()
+    ensures { (results : Results) (outcome : Outcome) (a amount bips set : ℕ) (questions : List ℕ) → AreQuestions results outcome questions → bips ≤ 10000 → IsChoice (length questions) set
+        → winners outcome questions ≤ 1
+        → taken_worth (worth results outcome) (convert_postings a amount bips set questions)
+        ≡ paid_worth (worth results outcome) (convert_postings a amount bips set questions) + (1 - winners outcome questions) * (amount * denominator results) }
 {}
