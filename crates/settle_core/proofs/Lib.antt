@@ -11,6 +11,7 @@ mod Lowest
 mod Moves
 mod Partings
 mod Partitions
+mod Plans
 mod Posted
 mod Reported
 mod Settled

@@ -1,22 +1,18 @@
-use Rattle.std.proofs.Common.{◌≡◌, ◌==◌, length, true, false, Err, Some, rules, tests, sym, ap, subst, ◌∙◌}
-use Rattle.std.specs.Prelude.{nat_le}
+use Rattle.std.proofs.Common.{◌≡◌, ◌==◌, true, false, Err, Some, rules, tests, sym, subst, ◌∙◌}
 use Rattle.command_words.specs.declared.command.Command.TheVariants.{Merge}
-use Rattle.command_words.specs.declared.refusal.Refusal.TheVariants.{Unfunded, HistoryFull}
+use Rattle.command_words.specs.declared.refusal.Refusal.TheVariants.{Unfunded}
 use Rattle.condition_sets.specs.declared.names.TheConstants.{EXCHANGE}
 use Rattle.ledger_book.specs.Ledger.{amount_at}
 use Rattle.ledger_book.specs.Planning.{first_short, PlannedBy}
 use Rattle.ledger_book.specs.declared.plan_fault.PlanFault.{PlanFault}
-use Rattle.settle_core.specs.declared.changes.Changes.{Changes}
-use Rattle.split_merge.specs.Splitting.{whole_of, parts_of, merge_postings}
-use Rattle.settle_core.specs.Book.{book, conditions, postings_of}
+use Rattle.split_merge.specs.Splitting.{whole_of, parts_of}
 use Rattle.settle_core.specs.Exchange.{ExchangeView, asked}
-use Rattle.settle_core.specs.Keys.{union_in, whole_in}
-use Rattle.settle_core.specs.Postings.{balance}
-use Rattle.settle_core.specs.Refusals.{where_, supply_limit, entries_limit}
 use Rattle.settle_core.specs.Verdict.{verdict, AnsweredBy}
+use Rattle.settle_core.specs.declared.changes.Changes.{Changes}
 use Rattle.settle_core.specs.declared.keys.Partition.{Partition}
-use Rattle.settle_core.proofs.KeptLemmas.{kept-balance, last_refusals}
-use Rattle.settle_core.proofs.Partings.{question, refused-first, front-answered, front-none, short-some, short-none}
+use Rattle.settle_core.proofs.KeptLemmas.{last_refusals}
+use Rattle.settle_core.proofs.Partings.{refused-first, front-answered, front-none}
+use Rattle.settle_core.proofs.Plans.{parting-last, parting-short, partition-told, taken_of}
 use Rattle.settle_core.proofs.Verdicts.{answered-err}
 use Rattle.settle_core.proofs.exchange.Exchange.changes_of_merge.Goals as goal
 
@@ -37,18 +33,13 @@ returns-in-Err-Short-clause-verdict c =
     let h = e.history.items in
     let allowed : (c.args.account == EXCHANGE) ≡ false = search (rules, tests) in
     let front = front-none true e.limits h c.args.account c.args.parent.now c.as_slice.result.now c.args.condition c.args.sets.now c.as_slice-2.result.now c.args.amount c.args.now e.conditions.facts allowed c.as_slice.ensures c.as_slice-2.ensures c.self.invariant.conditions c.in-Ok.ensures.verdict in
-    let holds : balance h c.args.account ≡ amount_at e.ledger c.args.account = λ i k. kept-balance e.limits e.conditions e.ledger h c.self.invariant c.args.account k i in
-    let number : c.args.amount ≡ c.in-Some.amount = sym c.in-Some.ensures.value in
-    let parent : c.args.parent.now ≡ c.in-Ok.parted.parent = sym (c.in-Ok.ensures.parent ∙ c.as_slice.ensures) in
-    let union : union_in (conditions h) c.args.condition c.args.sets.now ≡ c.in-Ok.parted.union
-    = (λ i. union_in (sym c.self.invariant.conditions i) c.args.condition (sym c.as_slice-2.ensures i)) ∙ sym c.in-Ok.ensures.union in
-    let sets : c.args.sets.now ≡ c.deref.result.now = sym (c.deref.ensures.value ∙ (c.in-Ok.ensures.sets ∙ c.as_slice-2.ensures)) in
-    let whole : whole_in (conditions h) c.args.parent.now c.args.condition c.args.sets.now ≡ whole_of c.in-Ok.parted.union c.in-Ok.parted.parent c.args.condition = λ i. whole_of (union i) (parent i) c.args.condition in
-    let parts : parts_of c.args.parent.now c.args.condition c.args.sets.now ≡ parts_of c.in-Ok.parted.parent c.args.condition c.deref.result.now = λ i. parts_of (parent i) c.args.condition (sets i) in
-    let q = question e.limits h c.args.account (Merge c.args.parent.now c.args.condition c.args.sets.now c.args.amount) c.args.now in
-    let short = (λ i. first_short (holds i) (number i) (parts i)) ∙ subst (λ (fault : PlanFault). PlannedBy (first_short (amount_at e.ledger c.args.account) c.in-Some.amount (parts_of c.in-Ok.parted.parent c.args.condition c.deref.result.now)) (Err fault)) c.in-Err-Short.field-0-is c.in-Err-Short.ensures.short in
+    let told = partition-told e.limits e.conditions e.ledger h c.self.invariant c.args.account c.args.parent.now c.as_slice.result.now c.in-Ok.parted.parent c.args.condition c.args.sets.now c.as_slice-2.result.now c.deref.result.now c.in-Ok.parted.union c.args.amount c.in-Some.amount
+    c.as_slice.ensures c.as_slice-2.ensures c.in-Ok.ensures.parent c.in-Ok.ensures.union (c.deref.ensures.value ∙ c.in-Ok.ensures.sets) c.in-Some.ensures.value in
+    let whole = whole_of c.in-Ok.parted.union c.in-Ok.parted.parent c.args.condition in
+    let parts = parts_of c.in-Ok.parted.parent c.args.condition c.deref.result.now in
+    let short = subst (λ (fault : PlanFault). PlannedBy (first_short (amount_at e.ledger c.args.account) c.in-Some.amount (taken_of true whole parts)) (Err fault)) c.in-Err-Short.field-0-is c.in-Err-Short.ensures.short in
     subst (λ (s : ExchangeView). verdict (asked s c.args.account (Merge c.args.parent.now c.args.condition c.args.sets.now c.args.amount) c.args.now) ≡ Some (Unfunded c.in-Err-Short.have c.in-Err-Short.place)) c.self.view_is
-    (short-some q _ c.in-Err-Short.have c.in-Err-Short.place c.args.amount (balance h c.args.account) (parts_of c.args.parent.now c.args.condition c.args.sets.now) front short)
+    (parting-short true e.limits h c.args.account c.args.parent.now c.args.condition c.args.sets.now c.args.amount c.args.now (amount_at e.ledger c.args.account) whole parts c.in-Some.amount c.in-Err-Short.have c.in-Err-Short.place front told short)
 
 pub returns-in-Some-refusal_at_last-clause-verdict : goal.returns-in-Some-refusal_at_last-clause-verdict
 returns-in-Some-refusal_at_last-clause-verdict c =
@@ -56,21 +47,12 @@ returns-in-Some-refusal_at_last-clause-verdict c =
     let h = e.history.items in
     let allowed : (c.args.account == EXCHANGE) ≡ false = search (rules, tests) in
     let front = front-none true e.limits h c.args.account c.args.parent.now c.as_slice.result.now c.args.condition c.args.sets.now c.as_slice-2.result.now c.args.amount c.args.now e.conditions.facts allowed c.as_slice.ensures c.as_slice-2.ensures c.self.invariant.conditions c.in-Ok.ensures.verdict in
-    let holds : balance h c.args.account ≡ amount_at e.ledger c.args.account = λ i k. kept-balance e.limits e.conditions e.ledger h c.self.invariant c.args.account k i in
-    let number : c.args.amount ≡ c.in-Some.amount = sym c.in-Some.ensures.value in
-    let parent : c.args.parent.now ≡ c.in-Ok.parted.parent = sym (c.in-Ok.ensures.parent ∙ c.as_slice.ensures) in
-    let union : union_in (conditions h) c.args.condition c.args.sets.now ≡ c.in-Ok.parted.union
-    = (λ i. union_in (sym c.self.invariant.conditions i) c.args.condition (sym c.as_slice-2.ensures i)) ∙ sym c.in-Ok.ensures.union in
-    let sets : c.args.sets.now ≡ c.deref.result.now = sym (c.deref.ensures.value ∙ (c.in-Ok.ensures.sets ∙ c.as_slice-2.ensures)) in
-    let whole : whole_in (conditions h) c.args.parent.now c.args.condition c.args.sets.now ≡ whole_of c.in-Ok.parted.union c.in-Ok.parted.parent c.args.condition = λ i. whole_of (union i) (parent i) c.args.condition in
-    let parts : parts_of c.args.parent.now c.args.condition c.args.sets.now ≡ parts_of c.in-Ok.parted.parent c.args.condition c.deref.result.now = λ i. parts_of (parent i) c.args.condition (sets i) in
-    let q = question e.limits h c.args.account (Merge c.args.parent.now c.args.condition c.args.sets.now c.args.amount) c.args.now in
-    let funds = (λ i. first_short (holds i) (number i) (parts i)) ∙ c.in-Ok-plan_merge.ensures.short in
-    let verdict_is = short-none q (supply_limit q) (entries_limit q) (where_ (nat_le e.limits.history (length h)) HistoryFull) c.args.amount (balance h c.args.account) (parts_of c.args.parent.now c.args.condition c.args.sets.now) front funds in
-    let posted : c.plan_merge.new.s.postings ≡ postings_of (book h) c.args.account (Merge c.args.parent.now c.args.condition c.args.sets.now c.args.amount) = c.in-Ok-plan_merge.ensures.ok ∙ (λ i. merge_postings c.args.account (sym whole i) (sym parts i) (sym number i)) in
-    let here : verdict q ≡ last_refusals e.limits h c.plan_merge.new.s.postings = verdict_is ∙ ap (last_refusals e.limits h) (sym posted) in
-    let there = subst (λ (s : ExchangeView). verdict (asked s c.args.account (Merge c.args.parent.now c.args.condition c.args.sets.now c.args.amount) c.args.now) ≡ last_refusals s.limits s.history c.plan_merge.new.s.postings) c.self.view_is here in
-    answered-err Changes _ c.in-Some-refusal_at_last.refusal (there ∙ (sym c.refusal_at_last.ensures ∙ c.in-Some-refusal_at_last.is))
+    let told = partition-told e.limits e.conditions e.ledger h c.self.invariant c.args.account c.args.parent.now c.as_slice.result.now c.in-Ok.parted.parent c.args.condition c.args.sets.now c.as_slice-2.result.now c.deref.result.now c.in-Ok.parted.union c.args.amount c.in-Some.amount
+    c.as_slice.ensures c.as_slice-2.ensures c.in-Ok.ensures.parent c.in-Ok.ensures.union (c.deref.ensures.value ∙ c.in-Ok.ensures.sets) c.in-Some.ensures.value in
+    let here = parting-last true e.limits h c.args.account c.args.parent.now c.args.condition c.args.sets.now c.args.amount c.args.now (amount_at e.ledger c.args.account) (whole_of c.in-Ok.parted.union c.in-Ok.parted.parent c.args.condition)
+    (parts_of c.in-Ok.parted.parent c.args.condition c.deref.result.now) c.in-Some.amount c.plan_merge.new.s.postings front told c.in-Ok-plan_merge.ensures.short c.in-Ok-plan_merge.ensures.ok in
+    let last = subst (λ (s : ExchangeView). verdict (asked s c.args.account (Merge c.args.parent.now c.args.condition c.args.sets.now c.args.amount) c.args.now) ≡ last_refusals s.limits s.history c.plan_merge.new.s.postings) c.self.view_is here in
+    answered-err Changes _ c.in-Some-refusal_at_last.refusal (last ∙ (sym c.refusal_at_last.ensures ∙ c.in-Some-refusal_at_last.is))
 
 pub returns-clause-verdict : goal.returns-clause-verdict
 returns-clause-verdict c =
@@ -78,18 +60,9 @@ returns-clause-verdict c =
     let h = e.history.items in
     let allowed : (c.args.account == EXCHANGE) ≡ false = search (rules, tests) in
     let front = front-none true e.limits h c.args.account c.args.parent.now c.as_slice.result.now c.args.condition c.args.sets.now c.as_slice-2.result.now c.args.amount c.args.now e.conditions.facts allowed c.as_slice.ensures c.as_slice-2.ensures c.self.invariant.conditions c.in-Ok.ensures.verdict in
-    let holds : balance h c.args.account ≡ amount_at e.ledger c.args.account = λ i k. kept-balance e.limits e.conditions e.ledger h c.self.invariant c.args.account k i in
-    let number : c.args.amount ≡ c.in-Some.amount = sym c.in-Some.ensures.value in
-    let parent : c.args.parent.now ≡ c.in-Ok.parted.parent = sym (c.in-Ok.ensures.parent ∙ c.as_slice.ensures) in
-    let union : union_in (conditions h) c.args.condition c.args.sets.now ≡ c.in-Ok.parted.union
-    = (λ i. union_in (sym c.self.invariant.conditions i) c.args.condition (sym c.as_slice-2.ensures i)) ∙ sym c.in-Ok.ensures.union in
-    let sets : c.args.sets.now ≡ c.deref.result.now = sym (c.deref.ensures.value ∙ (c.in-Ok.ensures.sets ∙ c.as_slice-2.ensures)) in
-    let whole : whole_in (conditions h) c.args.parent.now c.args.condition c.args.sets.now ≡ whole_of c.in-Ok.parted.union c.in-Ok.parted.parent c.args.condition = λ i. whole_of (union i) (parent i) c.args.condition in
-    let parts : parts_of c.args.parent.now c.args.condition c.args.sets.now ≡ parts_of c.in-Ok.parted.parent c.args.condition c.deref.result.now = λ i. parts_of (parent i) c.args.condition (sets i) in
-    let q = question e.limits h c.args.account (Merge c.args.parent.now c.args.condition c.args.sets.now c.args.amount) c.args.now in
-    let funds = (λ i. first_short (holds i) (number i) (parts i)) ∙ c.in-Ok-plan_merge.ensures.short in
-    let verdict_is = short-none q (supply_limit q) (entries_limit q) (where_ (nat_le e.limits.history (length h)) HistoryFull) c.args.amount (balance h c.args.account) (parts_of c.args.parent.now c.args.condition c.args.sets.now) front funds in
-    let posted : c.plan_merge.new.s.postings ≡ postings_of (book h) c.args.account (Merge c.args.parent.now c.args.condition c.args.sets.now c.args.amount) = c.in-Ok-plan_merge.ensures.ok ∙ (λ i. merge_postings c.args.account (sym whole i) (sym parts i) (sym number i)) in
-    let here : verdict q ≡ last_refusals e.limits h c.plan_merge.new.s.postings = verdict_is ∙ ap (last_refusals e.limits h) (sym posted) in
-    let there = subst (λ (s : ExchangeView). verdict (asked s c.args.account (Merge c.args.parent.now c.args.condition c.args.sets.now c.args.amount) c.args.now) ≡ last_refusals s.limits s.history c.plan_merge.new.s.postings) c.self.view_is here in
-    there ∙ (sym c.refusal_at_last.ensures ∙ c.in-None.is)
+    let told = partition-told e.limits e.conditions e.ledger h c.self.invariant c.args.account c.args.parent.now c.as_slice.result.now c.in-Ok.parted.parent c.args.condition c.args.sets.now c.as_slice-2.result.now c.deref.result.now c.in-Ok.parted.union c.args.amount c.in-Some.amount
+    c.as_slice.ensures c.as_slice-2.ensures c.in-Ok.ensures.parent c.in-Ok.ensures.union (c.deref.ensures.value ∙ c.in-Ok.ensures.sets) c.in-Some.ensures.value in
+    let here = parting-last true e.limits h c.args.account c.args.parent.now c.args.condition c.args.sets.now c.args.amount c.args.now (amount_at e.ledger c.args.account) (whole_of c.in-Ok.parted.union c.in-Ok.parted.parent c.args.condition)
+    (parts_of c.in-Ok.parted.parent c.args.condition c.deref.result.now) c.in-Some.amount c.plan_merge.new.s.postings front told c.in-Ok-plan_merge.ensures.short c.in-Ok-plan_merge.ensures.ok in
+    let last = subst (λ (s : ExchangeView). verdict (asked s c.args.account (Merge c.args.parent.now c.args.condition c.args.sets.now c.args.amount) c.args.now) ≡ last_refusals s.limits s.history c.plan_merge.new.s.postings) c.self.view_is here in
+    last ∙ (sym c.refusal_at_last.ensures ∙ c.in-None.is)

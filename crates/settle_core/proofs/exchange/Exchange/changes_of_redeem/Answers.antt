@@ -1,18 +1,18 @@
-use Rattle.std.proofs.Common.{◌≡◌, ◌==◌, ℕ, ◌<◌, List, length, false, Option, None, Some, Err, rules, tests, sym, ap, subst, ◌∙◌, arith}
+use Rattle.std.proofs.Common.{◌≡◌, ◌==◌, ◌<◌, List, length, false, None, Some, Err, rules, tests, sym, ap, subst, ◌∙◌, arith}
 use Rattle.command_words.specs.declared.command.Command.TheVariants.{Redeem}
 use Rattle.command_words.specs.declared.refusal.Refusal.TheVariants.{NotReported}
 use Rattle.condition_sets.specs.declared.names.TheConstants.{EXCHANGE}
 use Rattle.ledger_book.specs.Ledger.{amount_at}
 use Rattle.ledger_book.specs.declared.posting.Posting.{Posting}
-use Rattle.report_redeem.specs.Redeeming.{redeem_postings}
 use Rattle.report_redeem.proofs.Redemptions.{redeemed-many}
-use Rattle.settle_core.specs.Book.{book, held_in, numerators_on, postings_of, redeemed_in, reports}
+use Rattle.settle_core.specs.Book.{numerators_on, reports}
 use Rattle.settle_core.specs.Exchange.{ExchangeView, asked}
 use Rattle.settle_core.specs.Verdict.{verdict, AnsweredBy}
 use Rattle.settle_core.specs.declared.changes.Changes.{Changes}
 use Rattle.settle_core.specs.declared.keys.Choice.{Choice}
-use Rattle.settle_core.proofs.KeptLemmas.{kept-balance, last_refusals}
-use Rattle.settle_core.proofs.Partings.{choice-answered, question, redeem-front, refused-first}
+use Rattle.settle_core.proofs.KeptLemmas.{last_refusals}
+use Rattle.settle_core.proofs.Partings.{choice-answered, redeem-front, refused-first}
+use Rattle.settle_core.proofs.Plans.{redeem-last}
 use Rattle.settle_core.proofs.Posted.{redeemed-some}
 use Rattle.settle_core.proofs.Verdicts.{answered-err}
 use Rattle.settle_core.proofs.exchange.Exchange.changes_of_redeem.Goals as goal
@@ -49,31 +49,17 @@ returns-in-Some-refusal_at_last-clause-verdict c =
     let e = c.self.inside in
     let h = e.history.items in
     let allowed : (c.args.account == EXCHANGE) ≡ false = search (rules, tests) in
-    let told : numerators_on (reports h) c.args.condition ≡ Some c.in-Some.numerators.now = sym (c.self.invariant.reports.each c.args.condition) ∙ c.in-Some.ensures.value in
-    let front = redeem-front e.limits h c.args.account c.args.parent.now c.as_slice.result.now c.args.condition c.args.sets.now c.as_slice-2.result.now c.args.now e.conditions.facts (Some c.in-Some.numerators.now) allowed c.as_slice.ensures c.as_slice-2.ensures c.self.invariant.conditions c.in-Ok.ensures.verdict told in
-    let holds : held_in (book h) ≡ amount_at e.ledger = λ i a k. kept-balance e.limits e.conditions e.ledger h c.self.invariant a k i in
-    let parent : c.args.parent.now ≡ c.in-Ok.chosen.parent = sym (c.in-Ok.ensures.parent ∙ c.as_slice.ensures) in
-    let sets : c.args.sets.now ≡ c.deref.result.now = sym (c.deref.ensures.value ∙ (c.in-Ok.ensures.sets ∙ c.as_slice-2.ensures)) in
-    let posted : c.plan_redeem.new.s.postings ≡ postings_of (book h) c.args.account (Redeem c.args.parent.now c.args.condition c.args.sets.now)
-    = c.in_ok-paid.ensures.postings ∙ ((λ i. redeem_postings (sym holds i) c.args.account (sym parent i) c.args.condition c.in-Some.numerators.now (sym sets i))
-    ∙ ap (λ (o : Option (List ℕ)). redeemed_in (book h) c.args.account c.args.parent.now c.args.condition c.args.sets.now o) (sym told)) in
-    let here : verdict (question e.limits h c.args.account (Redeem c.args.parent.now c.args.condition c.args.sets.now) c.args.now) ≡ last_refusals e.limits h c.plan_redeem.new.s.postings = front ∙ ap (last_refusals e.limits h) (sym posted) in
-    let there = subst (λ (s : ExchangeView). verdict (asked s c.args.account (Redeem c.args.parent.now c.args.condition c.args.sets.now) c.args.now) ≡ last_refusals s.limits s.history c.plan_redeem.new.s.postings) c.self.view_is here in
-    answered-err Changes _ c.in-Some-refusal_at_last.refusal (there ∙ (sym c.refusal_at_last.ensures ∙ c.in-Some-refusal_at_last.is))
+    let here = redeem-last e.limits e.conditions e.ledger h c.self.invariant c.args.account c.args.parent.now c.as_slice.result.now c.in-Ok.chosen.parent c.args.condition c.args.sets.now c.as_slice-2.result.now c.deref.result.now c.args.now c.in-Some.numerators.now c.plan_redeem.new.s.postings
+    allowed c.as_slice.ensures c.as_slice-2.ensures c.in-Ok.ensures.parent (c.deref.ensures.value ∙ c.in-Ok.ensures.sets) c.in-Ok.ensures.verdict c.in-Some.ensures.value c.in_ok-paid.ensures.postings in
+    let last = subst (λ (s : ExchangeView). verdict (asked s c.args.account (Redeem c.args.parent.now c.args.condition c.args.sets.now) c.args.now) ≡ last_refusals s.limits s.history c.plan_redeem.new.s.postings) c.self.view_is here in
+    answered-err Changes _ c.in-Some-refusal_at_last.refusal (last ∙ (sym c.refusal_at_last.ensures ∙ c.in-Some-refusal_at_last.is))
 
 pub returns-clause-verdict : goal.returns-clause-verdict
 returns-clause-verdict c =
     let e = c.self.inside in
     let h = e.history.items in
     let allowed : (c.args.account == EXCHANGE) ≡ false = search (rules, tests) in
-    let told : numerators_on (reports h) c.args.condition ≡ Some c.in-Some.numerators.now = sym (c.self.invariant.reports.each c.args.condition) ∙ c.in-Some.ensures.value in
-    let front = redeem-front e.limits h c.args.account c.args.parent.now c.as_slice.result.now c.args.condition c.args.sets.now c.as_slice-2.result.now c.args.now e.conditions.facts (Some c.in-Some.numerators.now) allowed c.as_slice.ensures c.as_slice-2.ensures c.self.invariant.conditions c.in-Ok.ensures.verdict told in
-    let holds : held_in (book h) ≡ amount_at e.ledger = λ i a k. kept-balance e.limits e.conditions e.ledger h c.self.invariant a k i in
-    let parent : c.args.parent.now ≡ c.in-Ok.chosen.parent = sym (c.in-Ok.ensures.parent ∙ c.as_slice.ensures) in
-    let sets : c.args.sets.now ≡ c.deref.result.now = sym (c.deref.ensures.value ∙ (c.in-Ok.ensures.sets ∙ c.as_slice-2.ensures)) in
-    let posted : c.plan_redeem.new.s.postings ≡ postings_of (book h) c.args.account (Redeem c.args.parent.now c.args.condition c.args.sets.now)
-    = c.in_ok-paid.ensures.postings ∙ ((λ i. redeem_postings (sym holds i) c.args.account (sym parent i) c.args.condition c.in-Some.numerators.now (sym sets i))
-    ∙ ap (λ (o : Option (List ℕ)). redeemed_in (book h) c.args.account c.args.parent.now c.args.condition c.args.sets.now o) (sym told)) in
-    let here : verdict (question e.limits h c.args.account (Redeem c.args.parent.now c.args.condition c.args.sets.now) c.args.now) ≡ last_refusals e.limits h c.plan_redeem.new.s.postings = front ∙ ap (last_refusals e.limits h) (sym posted) in
-    let there = subst (λ (s : ExchangeView). verdict (asked s c.args.account (Redeem c.args.parent.now c.args.condition c.args.sets.now) c.args.now) ≡ last_refusals s.limits s.history c.plan_redeem.new.s.postings) c.self.view_is here in
-    there ∙ (sym c.refusal_at_last.ensures ∙ c.in-None.is)
+    let here = redeem-last e.limits e.conditions e.ledger h c.self.invariant c.args.account c.args.parent.now c.as_slice.result.now c.in-Ok.chosen.parent c.args.condition c.args.sets.now c.as_slice-2.result.now c.deref.result.now c.args.now c.in-Some.numerators.now c.plan_redeem.new.s.postings
+    allowed c.as_slice.ensures c.as_slice-2.ensures c.in-Ok.ensures.parent (c.deref.ensures.value ∙ c.in-Ok.ensures.sets) c.in-Ok.ensures.verdict c.in-Some.ensures.value c.in_ok-paid.ensures.postings in
+    let last = subst (λ (s : ExchangeView). verdict (asked s c.args.account (Redeem c.args.parent.now c.args.condition c.args.sets.now) c.args.now) ≡ last_refusals s.limits s.history c.plan_redeem.new.s.postings) c.self.view_is here in
+    last ∙ (sym c.refusal_at_last.ensures ∙ c.in-None.is)
