@@ -1,0 +1,5 @@
+mod Balance
+mod Funding
+mod Prices
+mod Room
+mod Shortness
