@@ -1,7 +1,10 @@
 -- What each kind of step does to worths.
-use Rattle.std.proofs.Common.{◌≡◌, ◌≢◌, ℕ, ◌+◌, ◌*◌, ◌/◌, ◌<◌, ◌≤◌, ◌^◌, List, [], ◌∷◌, length, map, sum, sum_by, slice_get, Option, Some, None, refl, sym, ap, ◌∙◌, arith, inl, inr, mul_assoc, mul-le-mul_right, div-mul-le_self}
+use Rattle.std.proofs.Common.{◌≡◌, ◌≢◌, ℕ, zero, suc, ◌+◌, ◌*◌, ◌/◌, ◌<◌, ◌≤◌, ◌^◌, List, [], ◌∷◌, length, map, sum, sum_by, slice_get, Option, Some, None, All, cond, get_or, refl, sym, ap, ◌∙◌, arith, inl, inr, mul_assoc, mul-le-mul_right, div-mul-le_self}
+use Rattle.std.specs.Int.{bit_at}
 use Rattle.std.proofs.lemmas.Bool.{cases_eq, cond-true, cond-false}
 use Rattle.std.proofs.lemmas.Bool.Decides.{nat_tests}
+use Rattle.std.specs.Prelude.{◌==◌}
+use Rattle.std.proofs.lemmas.List.Elements.{All-head, All-tail, All-weaker}
 use Rattle.std.proofs.lemmas.List.Sums.{sum_by-cons}
 use Rattle.collection_keys.proofs.Joining.{part-joined_same, part-joined_other}
 use Rattle.collection_keys.specs.Collections.{Pairs, root, part, joined}
@@ -10,7 +13,7 @@ use Rattle.condition_table.specs.Shares.{numerators_in, weighted}
 use Rattle.condition_table.specs.declared.facts.Facts.{Facts}
 use Rattle.ledger_book.specs.Postings.{credit, debit}
 use Rattle.coverage_law.specs.Need.{paid_worth, taken_worth}
-use Rattle.coverage_law.specs.Outcomes.{Outcome, IsLawful, with_slot}
+use Rattle.coverage_law.specs.Outcomes.{Outcome, Outlook, IsLawful, winners, with_slot}
 use Rattle.coverage_law.specs.Worth.{Results, worth, denominator, denominator_of, share_of, factor_of, product_below, prepared, reported}
 use Rattle.coverage_law.proofs.Needs.{credits-paid, debits-taken}
 use Rattle.coverage_law.proofs.Products.{product-same, product-some, others, others-same, product-out}
@@ -200,22 +203,42 @@ reported-denominator results c ns below none =
     let all : product_below n before ≡ others n before c = product-out n before c below ∙ (λ j. one j * others n before c) ∙ omega arith in
     product-out n now c below ∙ (λ j. here j * rest j) ∙ (λ j. sum ns * sym all j)
 
--- each of these outcomes is lawful
-pub with_slot-lawful : (conditions : List Facts) (outcome : Outcome) (c slot : ℕ) (facts : Facts) → IsLawful conditions outcome → slice_get conditions c ≡ Some facts → slot < facts.slots
-    → IsLawful conditions (with_slot outcome c slot)
-with_slot-lawful conditions outcome c slot facts lawful is inside = record {
+-- of questions that aren't the condition as many come out YES
+winners-other : (outcome : Outcome) (c slot : ℕ) (qs : List ℕ) → All (λ q. q ≢ c) qs → winners (with_slot outcome c slot) qs ≡ winners outcome qs
+winners-other outcome c slot [] apart = refl
+winners-other outcome c slot (q ∷ qs) apart =
+    let here : with_slot outcome c slot q ≡ outcome q = slot-other outcome c slot q (All-head (λ (x : ℕ). x ≢ c) q qs apart) in
+    let rest = winners-other outcome c slot qs (All-tail (λ (x : ℕ). x ≢ c) q qs apart) in
+    λ i. cond (here i == 0) 1 0 + rest i
+
+-- each of these outcomes is lawful where the condition is no question
+pub with_slot-lawful : (outlook : Outlook) (outcome : Outcome) (c slot : ℕ) (facts : Facts) → IsLawful outlook outcome → slice_get outlook.conditions c ≡ Some facts → slot < facts.slots
+    → outlook.answers c ≡ None → All (λ questions. All (λ q. q ≢ c) questions) outlook.events → IsLawful outlook (with_slot outcome c slot)
+with_slot-lawful outlook outcome c slot facts lawful is inside unanswered apart = record {
   slots = λ condition f at. elim (cases_eq condition c) [
     | inl same ↦
-        let facts_same : facts ≡ f = some-same (sym is ∙ ap (slice_get conditions) (sym same) ∙ at) in
+        let facts_same : facts ≡ f = some-same (sym is ∙ ap (slice_get outlook.conditions) (sym same) ∙ at) in
         let few : facts.slots ≡ f.slots = ap (λ (g : Facts). g.slots) facts_same in
         let here : with_slot outcome c slot condition ≡ slot = ap (with_slot outcome c slot) same ∙ slot-here outcome c slot in
         omega (arith, here, few, inside)
     | inr other ↦ omega (arith, slot-other outcome c slot condition other, lawful.slots condition f at)
   ];
+  answers = λ condition ns told. elim (cases_eq condition c) [
+    | inl same ↦ absurd (clash ns (sym (ap outlook.answers same ∙ unanswered) ∙ told))
+    | inr other ↦ ap (slice_get ns) (slot-other outcome c slot condition other) ∙ lawful.answers condition ns told
+  ];
+  one_winner = each outlook.events apart lawful.one_winner;
 }
   where
     some-same : {a b : Facts} → ◌≡◌ {A = Option Facts} (Some a) (Some b) → a ≡ b
     some-same same = cc
+
+    clash : (ns : List ℕ) → ◌≡◌ {A = Option (List ℕ)} None (Some ns) → ⊥
+    clash ns e = cc
+
+    each : (events : List (List ℕ)) → All (λ questions. All (λ q. q ≢ c) questions) events → All (λ questions. winners outcome questions ≤ 1) events → All (λ questions. winners (with_slot outcome c slot) questions ≤ 1) events
+    each events apart one i questions inside =
+        omega (arith, winners-other outcome c slot (get_or events i questions) (apart i questions inside), one i questions inside)
 
 -- ---- redeeming
 
@@ -231,3 +254,46 @@ redeemed-worth results outcome k c set amount ns below free is some =
     let all : amount * worth results outcome (joined k c set) ≡ burnt * rest = ap (λ (w : ℕ). amount * w) after ∙ sym (mul_assoc amount (numerators_in ns set) rest) in
     let floor : (burnt / sum ns) * sum ns * rest ≤ burnt * rest = mul-le-mul_right rest (div-mul-le_self burnt (sum ns)) in
     omega (arith, paid, all, floor)
+
+-- ---- answers
+
+sum-more : (n : ℕ) (ns : List ℕ) → sum (n ∷ ns) ≡ n + sum ns
+sum-more n ns = sum_by-cons (λ (x : ℕ). x) n ns
+
+-- numerators that are all 0 weigh nothing
+weighted-none : (ns : List ℕ) (f : ℕ → ℕ) → sum ns ≡ 0 → weighted ns f ≡ 0
+weighted-none [] f none = refl
+weighted-none (zero ∷ ns) f none = omega (arith, weighted-none ns (λ s. f (suc s)) (omega (arith, none, sum-more zero ns)))
+weighted-none (suc n ∷ ns) f none = absurd (omega (arith, none, sum-more (suc n) ns))
+
+-- a numerator is within the sum
+sum-some : (ns : List ℕ) (slot : ℕ) → slice_get ns slot ≡ Some 1 → 1 ≤ sum ns
+sum-some [] slot is = cc
+sum-some (n ∷ ns) zero is = let one : n ≡ 1 = cc in omega (arith, one, sum-more n ns)
+sum-some (n ∷ ns) (suc slot) is = omega (arith, sum-some ns slot is, sum-more n ns)
+
+-- where the sum is 1, the slot that has it is weighed alone
+weighted-answer : (ns : List ℕ) (f : ℕ → ℕ) (slot : ℕ) → sum ns ≡ 1 → slice_get ns slot ≡ Some 1 → weighted ns f ≡ f slot
+weighted-answer [] f slot one is = cc
+weighted-answer (n ∷ ns) f zero one is =
+    let first : n ≡ 1 = cc in
+    let rest = weighted-none ns (λ s. f (suc s)) (omega (arith, one, first, sum-more n ns)) in
+    rw first (omega (arith, rest))
+weighted-answer (zero ∷ ns) f (suc slot) one is = omega (arith, weighted-answer ns (λ s. f (suc s)) slot (omega (arith, one, sum-more zero ns)) is)
+weighted-answer (suc n ∷ ns) f (suc slot) one is = absurd (omega (arith, one, sum-some ns slot is, sum-more (suc n) ns))
+
+by-one : (n amount : ℕ) → n ≡ 1 → amount / n ≡ amount
+by-one n amount one = rw one (omega arith)
+
+-- what is paid for an answered question's set is worth just what is burnt
+pub answered-worth : (results : Results) (outcome : Outcome) (k : Pairs) (c set amount : ℕ) (ns : List ℕ) → c < results.conditions → part k c ≡ None → results.numerators c ≡ None
+    → sum ns ≡ 1 → slice_get ns (outcome c) ≡ Some 1
+    → (amount * numerators_in ns set / sum ns) * worth results outcome k ≡ amount * worth results outcome (joined k c set)
+answered-worth results outcome k c set amount ns below free none one wins =
+    let rest = rest_of results outcome k c in
+    let share = numerators_in ns set in
+    let before : worth results outcome k ≡ rest = worth-free results outcome k c below free ∙ ap (λ o. denominator_of o * rest) none ∙ omega arith in
+    let after : worth results outcome (joined k c set) ≡ share * rest
+    = worth-joined results outcome k c set below free ∙ ap (λ o. share_of o (outcome c) set * rest) none ∙ ap (λ n. n * rest) (sym (weighted-answer ns (bit_at set) (outcome c) one wins)) in
+    let paid : amount * share / sum ns ≡ amount * share = by-one (sum ns) (amount * share) one in
+    (λ i. paid i * before i) ∙ mul_assoc amount share rest ∙ sym (ap (λ (w : ℕ). amount * w) after)

@@ -3,7 +3,7 @@
 //! The outcome is any, but where a law asks for a slot of the condition. Which collections have a worth that isn't 0 rests
 //! on the conditions alone, and never on who holds them.
 
-ghost use Rattle.std.specs.Prelude.{◌≡◌, ℕ, ◌+◌, ◌-◌, ◌*◌, ◌/◌, ◌<◌, ◌≤◌, ◌^◌, List, length, map, sum, slice_get, Some, None};
+ghost use Rattle.std.specs.Prelude.{◌≡◌, ◌≢◌, ℕ, ◌+◌, ◌-◌, ◌*◌, ◌/◌, ◌<◌, ◌≤◌, ◌^◌, List, length, map, sum, slice_get, Some, None, All};
 ghost use Rattle.collection_keys.specs.Collections.{Pairs, root, part, joined};
 ghost use Rattle.condition_sets.specs.Sets.{AreApart, union_of};
 ghost use Rattle.condition_table.specs.Shares.{numerators_in, weighted};
@@ -13,7 +13,7 @@ ghost use Rattle.ledger_book.specs.Entries.{AreEntries};
 ghost use Rattle.ledger_book.specs.Postings.{credit, credits, debits, IsFunded};
 ghost use Rattle.ledger_book.specs.declared.posting.Posting.{Posting};
 ghost use Rattle.coverage_law.specs.Need.{paid_worth, taken_worth, need, held_worth};
-ghost use Rattle.coverage_law.specs.Outcomes.{Outcome, IsLawful, winners, with_slot};
+ghost use Rattle.coverage_law.specs.Outcomes.{Outcome, Outlook, IsLawful, winners, with_slot};
 ghost use Rattle.coverage_law.specs.Questions.{AreQuestions};
 ghost use Rattle.coverage_law.specs.Worth.{Results, worth, denominator, denominator_of, prepared, reported};
 
@@ -50,20 +50,27 @@ pub fn preparing_changes_no_worth()
 {}
 
 /// What something is worth after a report is what it was worth with each slot winning, as often as the slot's numerator
-/// says; and each of these outcomes was lawful.
+/// says; and each of these outcomes was lawful, since the condition is no question.
 pub fn report_weighs_the_slots()
     ensures worth { (results : Results) (outcome : Outcome) (k : Pairs) (c : ℕ) (ns : List ℕ) → c < results.conditions → results.numerators c ≡ None
         → worth (reported results c ns) outcome k ≡ weighted ns (λ slot. worth results (with_slot outcome c slot) k) }
     ensures denominator { (results : Results) (c : ℕ) (ns : List ℕ) → c < results.conditions → results.numerators c ≡ None
         → denominator (reported results c ns) ≡ sum ns * denominator results }
-    ensures lawful { (conditions : List Facts) (outcome : Outcome) (c slot : ℕ) (facts : Facts) → IsLawful conditions outcome → slice_get conditions c ≡ Some facts → slot < facts.slots
-        → IsLawful conditions (with_slot outcome c slot) }
+    ensures lawful { (outlook : Outlook) (outcome : Outcome) (c slot : ℕ) (facts : Facts) → IsLawful outlook outcome → slice_get outlook.conditions c ≡ Some facts → slot < facts.slots
+        → outlook.answers c ≡ None → All (λ questions. All (λ question. question ≢ c) questions) outlook.events → IsLawful outlook (with_slot outcome c slot) }
 {}
 
 /// A redemption pays at most what it burns: it loses what the floor drops.
 pub fn redemption_loses_the_floor_alone()
     ensures { (results : Results) (outcome : Outcome) (k : Pairs) (c set amount : ℕ) (ns : List ℕ) → c < results.conditions → part k c ≡ None → results.numerators c ≡ Some ns → 0 < sum ns
         → (amount * numerators_in ns set / sum ns) * worth results outcome k ≤ amount * worth results outcome (joined k c set) }
+{}
+
+/// A redemption of an answered question pays just what it burns: the numerators' sum is 1, and the slot that wins has it.
+pub fn answered_question_is_paid_exactly()
+    ensures { (results : Results) (outcome : Outcome) (k : Pairs) (c set amount : ℕ) (ns : List ℕ) → c < results.conditions → part k c ≡ None → results.numerators c ≡ None
+        → sum ns ≡ 1 → slice_get ns (outcome c) ≡ Some 1
+        → (amount * numerators_in ns set / sum ns) * worth results outcome k ≡ amount * worth results outcome (joined k c set) }
 {}
 
 /// A conversion takes just what it pays where one of the event's questions comes out YES; where none does, it takes the
