@@ -1,6 +1,6 @@
 -- A supply is what all accounts hold together.
 use Rattle.std.proofs.Common.{Option, None, ◌≡◌, ◌==◌, ℕ, zero, suc, ◌+◌, ◌-◌, ◌^◌, ◌<◌, ◌≤◌, Bool, true, false, cond, List, [], ◌∷◌, ◌++◌, refl, sym, ap, ◌∙◌, arith, inl, inr}
-use Rattle.std.specs.Prelude.{All, ◌&&◌, fold, map, Some, sum_by}
+use Rattle.std.specs.Prelude.{All, ◌&&◌, fold, map, slice_get, Some, sum_by}
 use Rattle.std.proofs.lemmas.Bool.{cases_order, cond-true, cond-false}
 use Rattle.std.proofs.lemmas.Bool.Decides.{nat_tests}
 use Rattle.std.proofs.lemmas.List.Elements.{All-append, All-cons, All-head, All-nil, All-tail}
@@ -11,13 +11,16 @@ use Rattle.command_words.specs.Command.{in_ranges, may_be_act}
 use Rattle.command_words.specs.Ranges.{is_account, is_amount, is_key}
 use Rattle.command_words.specs.declared.act.Act.{Act}
 use Rattle.command_words.specs.declared.command.Command.{Command}
-use Rattle.command_words.specs.declared.command.Command.TheVariants.{Deposit, Withdraw, Move, Split, Merge, Redeem}
+use Rattle.command_words.specs.declared.command.Command.TheVariants.{Deposit, Withdraw, Move, Split, Merge, Redeem, Convert}
+use Rattle.condition_sets.specs.declared.names.TheConstants.{OPERATOR}
+use Rattle.convert_positions.specs.Converting.{cash_of, chosen, fee_of, no_of, others, out_of, paid_for, yes_of}
+use Rattle.event_table.specs.Events.{EventView}
 use Rattle.ledger_book.specs.Postings.{credit, debit, credits, debits, paid_to, taken_from}
 use Rattle.ledger_book.specs.declared.posting.Posting.{Posting}
 use Rattle.report_redeem.specs.Redeeming.{Redeemed, postings_for, redeemed}
 use Rattle.split_merge.specs.Splitting.{parts_of}
 use Rattle.std.specs.List.{flat_map}
-use Rattle.settle_core.specs.Book.{Book, blank, entered, held_in, numerators_on, postings, postings_of, redeemed_in}
+use Rattle.settle_core.specs.Book.{Book, blank, converted_in, entered, held_in, postings, postings_of, redeemed_in, told_on}
 use Rattle.settle_core.specs.Bounds.{Bounds}
 use Rattle.settle_core.specs.Keys.{whole_in}
 use Rattle.settle_core.specs.Legal.{IsLegal}
@@ -113,6 +116,24 @@ redemption-of : (b : Book) (a : ℕ) (parent : Pairs) (c : ℕ) (sets : List ℕ
 redemption-of b a parent c sets None fits = none-of
 redemption-of b a parent c sets (Some ns) fits = redeems-of a parent c (redeemed (held_in b) a parent c ns sets) fits
 
+-- what an account and the operator are paid and what the one gives of a conversion
+paid-of : (a each set : ℕ) (cs : List ℕ) → a < 2 ^ 16 → AreOfAccounts (paid_for a each set cs)
+paid-of a each set cs fits = credited (others set cs)
+  where
+    credited : (ds : List ℕ) → AreOfAccounts (map (λ c. credit a (yes_of c) each) ds ++ credit a root (cash_of each set cs) ∷ [])
+    credited [] = one-of (credit a root (cash_of each set cs)) [] fits none-of
+    credited (d ∷ ds) = one-of (credit a (yes_of d) each) _ fits (credited ds)
+
+conversion-of : (a set amount : ℕ) (o : Option EventView) → a < 2 ^ 16 → AreOfAccounts (converted_in o a set amount)
+conversion-of a set amount None fits = none-of
+conversion-of a set amount (Some event) fits =
+    All-append (λ (p : Posting). p.account < 2 ^ 16) _ _ (taken (chosen set event.conditions))
+    (All-append (λ (p : Posting). p.account < 2 ^ 16) _ _ (paid-of a (out_of amount event.bips) set event.conditions fits) (paid-of OPERATOR (fee_of amount event.bips) set event.conditions (omega arith)))
+  where
+    taken : (ds : List ℕ) → AreOfAccounts (map (λ c. debit a (no_of c) amount) ds)
+    taken [] = none-of
+    taken (d ∷ ds) = one-of (debit a (no_of d) amount) _ fits (taken ds)
+
 posts-of-account : (b : Book) (a : ℕ) (command : Command) → a < 2 ^ 16 → in_ranges command ≡ true → AreOfAccounts (postings_of b a command)
 posts-of-account b a (Deposit to amount) fits ranges = one-of (credit to root amount) [] (account-within to (first_true (is_account to) (is_amount amount) ranges)) none-of
 posts-of-account b a (Split parent condition sets amount) fits ranges =
@@ -122,7 +143,8 @@ posts-of-account b a (Merge parent condition sets amount) fits ranges =
 posts-of-account b a (Withdraw amount) fits ranges = one-of (debit a root amount) [] fits none-of
 posts-of-account b a (Move to key amount) fits ranges =
     one-of (debit a key amount) (credit to key amount ∷ []) fits (one-of (credit to key amount) [] (account-within to (first_true (is_account to) (is_key key && is_amount amount) ranges)) none-of)
-posts-of-account b a (Redeem parent condition sets) fits ranges = redemption-of b a parent condition sets (numerators_on b.reports condition) fits
+posts-of-account b a (Redeem parent condition sets) fits ranges = redemption-of b a parent condition sets (told_on b condition) fits
+posts-of-account b a (Convert event set amount) fits ranges = conversion-of a set amount (slice_get b.events event) fits
 posts-of-account b a command fits ranges = none-of
 
 abbrev MayBeActs : List Act → Type 0

@@ -11,7 +11,7 @@ use Rattle.command_words.specs.Command.{may_be_act}
 use Rattle.settle_core.specs.Bounds.{Bounds}
 use Rattle.settle_core.specs.Legal.{IsAccepted, IsLegal}
 use Rattle.ledger_book.specs.declared.posting.Posting.{Posting}
-use Rattle.settle_core.specs.Book.{blank, book, entered, conditions, prepared_by, reports, reported_by, postings, postings_of, Book}
+use Rattle.settle_core.specs.Book.{Book, answered_by, answers, blank, book, conditions, entered, events, events_after, numerators_on, postings, postings_of, prepared_by, reported_by, reports, told}
 use Rattle.settle_core.specs.Postings.{deposit_of, deposited, withdrawal_of, withdrawn}
 
 -- the value in a Some
@@ -49,7 +49,7 @@ pub legal-acts : (limits : Bounds) (history : List Act) → IsLegal limits histo
 legal-acts limits history legal place act inside = (legal place (get_or history place act) (slice_get-get_or history place act inside)).may_be_act
 
 -- one act more is entered behind the others
-book-more : (history : List Act) (act : Act) → book (history ++ act ∷ []) ≡ entered (book history) act
+pub book-more : (history : List Act) (act : Act) → book (history ++ act ∷ []) ≡ entered (book history) act
 book-more history act = fold-append entered blank history (act ∷ [])
 
 -- an act more pays its deposit into the vault, and its withdrawal out of it
@@ -60,12 +60,16 @@ pub withdrawn-more : (history : List Act) (act : Act) → withdrawn (history ++ 
 withdrawn-more history act = sum_by_push (λ (a : Act). withdrawal_of a.command) history act
 
 -- an act more prepares its condition
-pub conditions-more : (history : List Act) (act : Act) → conditions (history ++ act ∷ []) ≡ conditions history ++ prepared_by (book history) act.command
+pub conditions-more : (history : List Act) (act : Act) → conditions (history ++ act ∷ []) ≡ conditions history ++ prepared_by (events history) act.command
 conditions-more history act = ap (λ (b : Book). b.conditions) (book-more history act)
 
--- an act more reports behind the others
-pub reports-more : (history : List Act) (act : Act) → reports (history ++ act ∷ []) ≡ reports history ++ reported_by act.command
-reports-more history act = ap (λ (b : Book). b.reports) (book-more history act)
+-- and is entered into the events
+pub events-more : (history : List Act) (act : Act) → events (history ++ act ∷ []) ≡ events_after (length (conditions history)) (events history) act.command
+events-more history act = ap (λ (b : Book). b.events) (book-more history act)
+
+-- an act more tells behind what was told
+pub told-more : (history : List Act) (act : Act) → told (history ++ act ∷ []) ≡ numerators_on ((reports history ++ reported_by act.command) ++ (answers history ++ answered_by (events history) act.command))
+told-more history act = ap (λ (b : Book). numerators_on (b.reports ++ b.answers)) (book-more history act)
 
 -- an act more posts behind the others, which adds to every sum over what was posted
 pub postings-more : (history : List Act) (act : Act) → postings (history ++ act ∷ []) ≡ postings history ++ postings_of (book history) act.account act.command

@@ -1,26 +1,31 @@
 -- What a history posts is of conditions that it prepared.
-use Rattle.std.proofs.Common.{◌≡◌, ℕ, ◌<◌, ◌≤◌, false, List, [], ◌∷◌, ◌++◌, length, Option, Some, None, All, refl, ◌∙◌, arith}
-use Rattle.std.specs.Prelude.{◌==◌, map}
+use Rattle.std.proofs.Common.{◌≡◌, ℕ, suc, ◌<◌, ◌≤◌, false, List, [], ◌∷◌, ◌++◌, length, Option, Some, None, All, refl, ◌∙◌, arith, inl, inr}
+use Rattle.std.specs.Int.{bit_at}
+use Rattle.std.specs.Prelude.{◌==◌, ⊤, map, slice_get, MatchOption}
 use Rattle.std.specs.List.{list_any, flat_map}
-use Rattle.std.proofs.lemmas.Bool.{or_parts, leb-false}
+use Rattle.std.proofs.lemmas.Bool.{cases_Bool, or_parts, leb-false}
 use Rattle.std.proofs.lemmas.Bool.Decides.{nat_tests}
-use Rattle.std.proofs.lemmas.List.Elements.{All-append, All-cons, All-nil, All-weaker}
+use Rattle.std.proofs.lemmas.List.Elements.{All-append, All-cons, All-head, All-nil, All-tail, All-weaker}
 use Rattle.collection_keys.proofs.Joining.{part-joined_other}
 use Rattle.collection_keys.specs.Collections.{Pairs, joined, part, root}
 use Rattle.condition_table.specs.declared.facts.Facts.{Facts}
+use Rattle.condition_sets.specs.declared.names.TheConstants.{OPERATOR}
+use Rattle.convert_positions.specs.Converting.{cash_of, chosen_from, fee_of, no_of, others_from, out_of, paid_for, yes_of}
+use Rattle.event_table.specs.Events.{EventView}
 use Rattle.ledger_book.specs.Postings.{credit, debit}
 use Rattle.ledger_book.specs.declared.posting.Posting.{Posting}
 use Rattle.command_words.specs.declared.act.Act.{Act}
 use Rattle.command_words.specs.declared.command.Command.{Command}
-use Rattle.command_words.specs.declared.command.Command.TheVariants.{Deposit, Withdraw, Move, Split, Merge, Redeem}
+use Rattle.command_words.specs.declared.command.Command.TheVariants.{Deposit, Withdraw, Move, Split, Merge, Redeem, Convert}
 use Rattle.condition_sets.specs.declared.partition.Union.{Union}
 use Rattle.condition_sets.specs.declared.partition.Union.TheVariants.{Full, Part}
 use Rattle.report_redeem.specs.Redeeming.{Redeemed, postings_for, redeemed}
 use Rattle.split_merge.specs.Splitting.{whole_of}
-use Rattle.settle_core.specs.Book.{Book, book, conditions, reports, numerators_on, postings_of, redeemed_in, held_in}
+use Rattle.settle_core.specs.Book.{Book, answers, book, conditions, conversions, converted_in, events, held_in, postings_of, redeemed_in, reports, told}
 use Rattle.settle_core.specs.Bounds.{Bounds}
 use Rattle.settle_core.specs.Keys.{is_unprepared, key_is_unprepared, union_in, whole_in}
 use Rattle.settle_core.specs.Refusals.{Question}
+use Rattle.settle_core.proofs.Orderly.{IsOrderlyBy, event-known}
 use Rattle.settle_core.proofs.Verdicts.{AreNone, earlier, accepted-prepared}
 
 -- a collection has no condition from this number on
@@ -81,6 +86,37 @@ known-redemption : (b : Book) (a : ℕ) (parent : Pairs) (c : ℕ) (sets : List 
 known-redemption b a parent c sets None inside known = known-none _
 known-redemption b a parent c sets (Some ns) inside known = known-redeemed (length b.conditions) a parent c (redeemed (held_in b) a parent c ns sets) inside known
 
+-- what is converted, in an event whose conditions are prepared
+known-chosen : (n a amount set place : ℕ) (cs : List ℕ) → All (λ c. c < n) cs → AreKnown n (map (λ c. debit a (no_of c) amount) (chosen_from set place cs))
+known-chosen n a amount set place [] inside = known-none n
+known-chosen n a amount set place (c ∷ cs) inside =
+    let first : c < n = All-head (λ (d : ℕ). d < n) c cs inside in
+    let rest = known-chosen n a amount set (suc place) cs (All-tail (λ (d : ℕ). d < n) c cs inside) in
+    elim (cases_Bool (bit_at set place == 1)) [
+      | inl here ↦ rw here (known-one n (debit a (no_of c) amount) _ (known-joined n root c 2 first (known-root n)) rest)
+      | inr other ↦ rw other rest
+    ]
+
+known-others : (n a each set place : ℕ) (cs : List ℕ) → All (λ c. c < n) cs → AreKnown n (map (λ c. credit a (yes_of c) each) (others_from set place cs))
+known-others n a each set place [] inside = known-none n
+known-others n a each set place (c ∷ cs) inside =
+    let first : c < n = All-head (λ (d : ℕ). d < n) c cs inside in
+    let rest = known-others n a each set (suc place) cs (All-tail (λ (d : ℕ). d < n) c cs inside) in
+    elim (cases_Bool (bit_at set place == 1)) [
+      | inl here ↦ rw here rest
+      | inr other ↦ rw other (known-one n (credit a (yes_of c) each) _ (known-joined n root c 1 first (known-root n)) rest)
+    ]
+
+known-paid : (n a each set : ℕ) (cs : List ℕ) → All (λ c. c < n) cs → AreKnown n (paid_for a each set cs)
+known-paid n a each set cs inside =
+    known-both n _ _ (known-others n a each set 0 cs inside) (known-one n (credit a root (cash_of each set cs)) [] (known-root n) (known-none n))
+
+known-converted : (n a set amount : ℕ) (o : Option EventView) → MatchOption o ⊤ (λ event. All (λ c. c < n) event.conditions) → AreKnown n (converted_in o a set amount)
+known-converted n a set amount None inside = known-none n
+known-converted n a set amount (Some event) inside =
+    known-both n _ _ (known-chosen n a amount set 0 event.conditions inside)
+    (known-both n _ _ (known-paid n a (out_of amount event.bips) set event.conditions inside) (known-paid n OPERATOR (fee_of amount event.bips) set event.conditions inside))
+
 -- what is split and merged
 known-whole : (prepared : List Facts) (parent : Pairs) (condition : ℕ) (sets : List ℕ) → condition < length prepared → IsKnown (length prepared) parent → IsKnown (length prepared) (whole_in prepared parent condition sets)
 known-whole prepared parent condition sets inside known = by (union_in prepared condition sets)
@@ -90,34 +126,36 @@ known-whole prepared parent condition sets inside known = by (union_in prepared 
     by (Part set) = known-joined (length prepared) parent condition set inside known
 
 -- what an accepted command posts
-pub known-posted : (limits : Bounds) (history : List Act) (account moment : ℕ) (command : Command)
+pub known-posted : (limits : Bounds) (history : List Act) (account moment : ℕ) (command : Command) → IsOrderlyBy history
     → AreNone (earlier (record { limits = limits; history = history; account = account; command = command; moment = moment }))
     → AreKnown (length (conditions history)) (postings_of (book history) account command)
-known-posted limits history account moment (Deposit to amount) none = known-one _ (credit to root amount) [] (known-root _) (known-none _)
-known-posted limits history account moment (Withdraw amount) none = known-one _ (debit account root amount) [] (known-root _) (known-none _)
-known-posted limits history account moment (Move to key amount) none =
+known-posted limits history account moment (Deposit to amount) is none = known-one _ (credit to root amount) [] (known-root _) (known-none _)
+known-posted limits history account moment (Withdraw amount) is none = known-one _ (debit account root amount) [] (known-root _) (known-none _)
+known-posted limits history account moment (Move to key amount) is none =
     let q : Question = record { limits = limits; history = history; account = account; command = Move to key amount; moment = moment } in
     let there = or_parts (key_is_unprepared (conditions history) key) false (accepted-prepared q none) in
     let known = known-key (conditions history) key there.0 in
     let n = length (conditions history) in
     known-one n (debit account key amount) (credit to key amount ∷ []) known (known-one n (credit to key amount) [] known (known-none n))
-known-posted limits history account moment (Split parent condition sets amount) none =
+known-posted limits history account moment (Split parent condition sets amount) is none =
     let q : Question = record { limits = limits; history = history; account = account; command = Split parent condition sets amount; moment = moment } in
     let there = or_parts (key_is_unprepared (conditions history) parent) (is_unprepared (conditions history) condition) (accepted-prepared q none) in
     let known = known-key (conditions history) parent there.0 in
     let inside : condition < length (conditions history) = leb-false _ _ there.1 in
     known-one _ (debit account (whole_in (conditions history) parent condition sets) amount) _ (known-whole (conditions history) parent condition sets inside known) (known-credits _ account amount parent condition sets inside known)
-known-posted limits history account moment (Merge parent condition sets amount) none =
+known-posted limits history account moment (Merge parent condition sets amount) is none =
     let q : Question = record { limits = limits; history = history; account = account; command = Merge parent condition sets amount; moment = moment } in
     let there = or_parts (key_is_unprepared (conditions history) parent) (is_unprepared (conditions history) condition) (accepted-prepared q none) in
     let known = known-key (conditions history) parent there.0 in
     let inside : condition < length (conditions history) = leb-false _ _ there.1 in
     known-both _ _ _ (known-debits _ account amount parent condition sets inside known)
     (known-one _ (credit account (whole_in (conditions history) parent condition sets) amount) [] (known-whole (conditions history) parent condition sets inside known) (known-none _))
-known-posted limits history account moment (Redeem parent condition sets) none =
+known-posted limits history account moment (Redeem parent condition sets) is none =
     let q : Question = record { limits = limits; history = history; account = account; command = Redeem parent condition sets; moment = moment } in
     let there = or_parts (key_is_unprepared (conditions history) parent) (is_unprepared (conditions history) condition) (accepted-prepared q none) in
     let known = known-key (conditions history) parent there.0 in
     let inside : condition < length (conditions history) = leb-false _ _ there.1 in
-    known-redemption (book history) account parent condition sets (numerators_on (reports history) condition) inside known
-known-posted limits history account moment command none = known-none _
+    known-redemption (book history) account parent condition sets (told history condition) inside known
+known-posted limits history account moment (Convert event set amount) is none =
+    known-converted _ account set amount (slice_get (events history) event) (event-known (conditions history) (reports history) (answers history) (events history) (conversions history) event is)
+known-posted limits history account moment command is none = known-none _

@@ -1,4 +1,5 @@
 pub mod Coverage
+mod Entered
 mod EntryCounts
 mod Funded
 mod Held
@@ -7,12 +8,14 @@ mod Inductions
 mod KeptLemmas
 mod KeyLemmas
 mod Known
+mod Lists
 mod Lowest
 mod Moves
+mod Orderly
 mod Partings
 mod Partitions
 mod Plans
-mod Posted
+pub mod Posted
 mod Reported
 mod Settled
 mod Verdicts

@@ -1,6 +1,6 @@
 -- The verdict on commands that take, move and pay out positions, refusal by refusal.
-use Rattle.std.proofs.Common.{◌≡◌, ◌==◌, ℕ, Bool, true, false, List, [], ◌∷◌, length, Option, None, Some, Err, refl, sym, ap, ◌∙◌, arith}
-use Rattle.std.specs.Prelude.{nat_le, nat_lt, ◌||◌, is_some, is_none, slice_get, option_map}
+use Rattle.std.proofs.Common.{◌≡◌, ◌==◌, ◌^◌, ℕ, cond, Bool, true, false, List, [], ◌∷◌, length, Option, None, Some, Err, refl, sym, ap, ◌∙◌, arith}
+use Rattle.std.specs.Prelude.{nat_le, nat_lt, ◌||◌, is_some, is_none, slice_get, option_and_then, option_map}
 use Rattle.std.specs.List.{list_any}
 use Rattle.std.proofs.lemmas.Bool.Decides.{nat_tests}
 use Rattle.std.proofs.lemmas.Option.{slice_get_within}
@@ -8,14 +8,19 @@ use Rattle.collection_keys.specs.Collections.{Pairs, part}
 use Rattle.collection_keys.specs.declared.collection.TheConstants.{MAX_PAIRS}
 use Rattle.command_words.specs.declared.act.Act.{Act}
 use Rattle.command_words.specs.declared.command.Command.{Command}
-use Rattle.command_words.specs.declared.command.Command.TheVariants.{Deposit, Withdraw, Move, Split, Merge, Report, Redeem}
+use Rattle.command_words.specs.declared.command.Command.TheVariants.{Deposit, Withdraw, Move, Split, Merge, Report, Answer, Redeem, Convert}
 use Rattle.command_words.specs.declared.refusal.Refusal.{Refusal}
-use Rattle.command_words.specs.declared.refusal.Refusal.TheVariants.{NoCondition, BadSet, BadPartition, Held, TooDeep, BadPayouts, NotReported, Unfunded, HistoryFull, Memory}
+use Rattle.command_words.specs.declared.refusal.Refusal.TheVariants.{NoCondition, BadSet, BadPartition, Held, TooDeep, BadPayouts, NotReported, NoEvent, Unfunded, HistoryFull, Memory}
 use Rattle.condition_sets.specs.declared.names.TheConstants.{EXCHANGE}
+use Rattle.convert_positions.specs.Converting.{short_question}
+use Rattle.convert_positions.specs.Questions.{conditions_of}
+use Rattle.event_table.specs.Events.{EventView, facts_of, question_in, winner_in}
+use Rattle.event_table.specs.declared.events.EventFacts.{EventFacts}
 use Rattle.ledger_book.specs.Planning.{first_short}
-use Rattle.settle_core.specs.Book.{book, conditions, reports, numerators_on, postings_of}
+use Rattle.settle_core.specs.Book.{book, conditions, events, postings_of, told}
 use Rattle.settle_core.specs.Bounds.{Bounds}
-use Rattle.settle_core.specs.Refusals.{Question, where_, not_allowed, already_reported, bad_payouts, not_reported, no_event, determined, no_market, no_order, not_open, order_expired, nonce_old, self_match, repeated_order, wrong_pair, not_crossing, overfill, unfunded, exchange_short, too_little, still_funded, vault_limit, supply_limit, entries_limit, history_full, choice_refusals, partition_refusals, is_no_report}
+use Rattle.settle_core.specs.Postings.{balance}
+use Rattle.settle_core.specs.Refusals.{Question, where_, not_allowed, already_reported, bad_payouts, not_reported, no_event, determined, no_market, no_order, not_open, order_expired, nonce_old, self_match, repeated_order, wrong_pair, not_crossing, overfill, unfunded, exchange_short, too_little, still_funded, vault_limit, supply_limit, entries_limit, history_full, choice_refusals, partition_refusals, is_no_report, is_outside}
 use Rattle.settle_core.specs.Keys.{is_unprepared, is_improper, key_is_unprepared, key_is_improper, is_no_partition}
 use Rattle.settle_core.specs.Verdict.{verdict, first_some, AnsweredBy}
 use Rattle.condition_table.specs.declared.facts.Facts.{Facts}
@@ -139,12 +144,16 @@ deposit-last limits history account to amount now allowed vault = rw (allowed, v
 
 -- ---- a command that takes an amount of one position
 
--- what it takes isn't there, or memory was wanting
+-- the first that may be there is answered, or memory was wanting
+pub front-refused : (X Y : Type 0) (q : Question) (o : Option Refusal) (rest : List (Option Refusal)) (r : Refusal) → verdict q ≡ first_some (o ∷ rest) → AnsweredBy {X = X} o (Err r) → AnsweredBy {X = Y} (verdict q) (Err r)
+front-refused X Y q o rest Memory is by = tt
+front-refused X Y q o rest r is by = is ∙ rw by refl
+
+-- what it takes isn't there
 pub short-answered : (X Y : Type 0) (q : Question) (rest : List (Option Refusal)) (amount : ℕ) (held : Pairs → ℕ) (taken : List Pairs) (r : Refusal)
     → verdict q ≡ first_some (option_map (λ short. Unfunded short.1 short.0) (first_short held amount taken) ∷ rest)
     → AnsweredBy {X = X} (option_map (λ short. Unfunded short.1 short.0) (first_short held amount taken)) (Err r) → AnsweredBy {X = Y} (verdict q) (Err r)
-short-answered X Y q rest amount held taken Memory is by = tt
-short-answered X Y q rest amount held taken r is by = is ∙ rw by refl
+short-answered X Y q rest amount held taken r is by = front-refused X Y q (option_map (λ short. Unfunded short.1 short.0) (first_short held amount taken)) rest r is by
 
 -- a withdrawal is refused for what isn't there, and then for what is refused at last
 pub withdraw-front : (limits : Bounds) (history : List Act) (account amount now : ℕ) → (account == EXCHANGE) ≡ false → IsToFund (question limits history account (Withdraw amount) now)
@@ -167,7 +176,7 @@ none-told (Some ns) none = cc
 -- a report by the oracle on a condition that wasn't reported
 pub report-front : (limits : Bounds) (history : List Act) (account condition : ℕ) (payouts : List ℕ) (now : ℕ) (facts : Facts) (bad full : Bool) → let q : Question = question limits history account (Report condition payouts) now in
     (account == EXCHANGE) ≡ false → slice_get (conditions history) condition ≡ Some facts → (facts.oracle == account) ≡ true
-    → numerators_on (reports history) condition ≡ None → is_no_report (Some facts) payouts ≡ bad → nat_le limits.history (length history) ≡ full
+    → told history condition ≡ None → is_no_report (Some facts) payouts ≡ bad → nat_le limits.history (length history) ≡ full
     → verdict q ≡ first_some (where_ bad BadPayouts ∷ where_ full HistoryFull ∷ [])
 unfolding verdict
 report-front limits history account condition payouts now facts true full allowed at own none is_bad is_full =
@@ -216,16 +225,79 @@ choice-answered X Y limits history account parent key condition sets bits now pr
     choice-some limits history account parent condition sets now r allowed (same-choice history parent key condition sets bits prepared one two three ∙ by)
 
 reported-or-not : (limits : Bounds) (history : List Act) (account : ℕ) (parent : Pairs) (condition : ℕ) (sets : List ℕ) (now : ℕ) (o : Option (List ℕ)) → let q : Question = question limits history account (Redeem parent condition sets) now in
-    numerators_on (reports history) condition ≡ o → first_some (later q) ≡ first_some (where_ (is_none o) NotReported ∷ supply_limit q ∷ entries_limit q ∷ where_ (nat_le limits.history (length history)) HistoryFull ∷ [])
-reported-or-not limits history account parent condition sets now None told = rw told refl
-reported-or-not limits history account parent condition sets now (Some ns) told = rw told refl
+    told history condition ≡ o → first_some (later q) ≡ first_some (where_ (is_none o) NotReported ∷ supply_limit q ∷ entries_limit q ∷ where_ (nat_le limits.history (length history)) HistoryFull ∷ [])
+reported-or-not limits history account parent condition sets now None is = rw is refl
+reported-or-not limits history account parent condition sets now (Some ns) is = rw is refl
 
 -- behind them comes a condition that wasn't reported, and then what is refused at last
 pub redeem-front : (limits : Bounds) (history : List Act) (account : ℕ) (parent key : Pairs) (condition : ℕ) (sets bits : List ℕ) (now : ℕ) (prepared : List Facts) (o : Option (List ℕ)) → let q : Question = question limits history account (Redeem parent condition sets) now in
-    (account == EXCHANGE) ≡ false → key ≡ parent → bits ≡ sets → prepared ≡ conditions history → first_some (choice_refusals prepared key condition bits) ≡ None → numerators_on (reports history) condition ≡ o
+    (account == EXCHANGE) ≡ false → key ≡ parent → bits ≡ sets → prepared ≡ conditions history → first_some (choice_refusals prepared key condition bits) ≡ None → told history condition ≡ o
     → verdict q ≡ first_some (where_ (is_none o) NotReported ∷ supply_limit q ∷ entries_limit q ∷ where_ (nat_le limits.history (length history)) HistoryFull ∷ [])
 unfolding verdict
-redeem-front limits history account parent key condition sets bits now prepared o allowed one two three none told =
+redeem-front limits history account parent key condition sets bits now prepared o allowed one two three none is =
     let here : first_some (choice_refusals (conditions history) parent condition sets) ≡ None = same-choice history parent key condition sets bits prepared one two three ∙ none in
     rw allowed (four-none (unprepared (conditions history) parent condition) (improper (conditions history) parent condition sets) (held parent condition) (deep parent) (later (question limits history account (Redeem parent condition sets) now)) here
-    ∙ reported-or-not limits history account parent condition sets now o told)
+    ∙ reported-or-not limits history account parent condition sets now o is)
+
+-- ---- answers
+
+-- an answer by the event's oracle to a question that is there and not answered, where no other was answered YES
+pub answer-front : (limits : Bounds) (history : List Act) (account event place : ℕ) (won : Bool) (now : ℕ) (facts : EventFacts) (c : ℕ) (full : Bool) → let q : Question = question limits history account (Answer event place won) now in
+    (account == EXCHANGE) ≡ false → option_map facts_of (slice_get (events history) event) ≡ Some facts → (facts.oracle == account) ≡ true → question_in (events history) event place ≡ Some c
+    → told history c ≡ None → cond won (winner_in (events history) event) None ≡ None → nat_le limits.history (length history) ≡ full → verdict q ≡ first_some (where_ full HistoryFull ∷ [])
+unfolding verdict
+answer-front limits history account event place won now facts c full allowed found own asked none first is_full = by (slice_get (events history) event) refl found
+  where
+    by : (o : Option EventView) → slice_get (events history) event ≡ o → option_map facts_of o ≡ Some facts → verdict (question limits history account (Answer event place won) now) ≡ first_some (where_ full HistoryFull ∷ [])
+    by None at found = cc
+    by (Some made) at found =
+        let same : facts_of made ≡ facts = cc in
+        let oracle : (made.oracle == account) ≡ true = ap (λ (f : EventFacts). f.oracle == account) same ∙ own in
+        let there : slice_get made.conditions place ≡ Some c = sym (ap (option_and_then (λ (e : EventView). slice_get e.conditions place)) at) ∙ asked in
+        let inside = slice_get_within made.conditions place c there in
+        let within : nat_le (length made.conditions) place ≡ false = grind (arith, nat_tests, inside) in
+        let nobody : cond won made.winner None ≡ None = sym (ap (λ (o : Option EventView). cond won (option_and_then (λ (e : EventView). e.winner) o) None) at) ∙ first in
+        rw (allowed, at, oracle, within, there, none, nobody, is_full) refl
+
+-- ---- conversions
+
+-- the refusals of a conversion whose set isn't empty, by its event
+abbrev conversion_refusals : Question → (Pairs → ℕ) → ℕ → ℕ → Option EventView → List (Option Refusal)
+conversion_refusals q held amount set o =
+    where_ (is_outside o set) BadSet ∷ None ∷ None ∷ None ∷ None ∷ None ∷ None ∷ where_ (is_none o) NoEvent ∷ None
+    ∷ None ∷ None ∷ None ∷ None ∷ None ∷ None ∷ None ∷ None ∷ None ∷ None
+    ∷ option_map (λ short. Unfunded short.1 short.0) (short_question held amount set (conditions_of o)) ∷ None ∷ None ∷ None ∷ None
+    ∷ supply_limit q ∷ entries_limit q ∷ where_ (nat_le q.limits.history (length q.history)) HistoryFull ∷ []
+
+conversion-refused : (limits : Bounds) (history : List Act) (account event set amount now : ℕ) → let q : Question = question limits history account (Convert event set amount) now in
+    (account == EXCHANGE) ≡ false → (set == 0) ≡ false → verdict q ≡ first_some (conversion_refusals q (balance history account) amount set (slice_get (events history) event))
+unfolding verdict
+conversion-refused limits history account event set amount now allowed some = rw (allowed, some) refl
+
+-- a conversion of a set of an event's questions is refused for what isn't there, and then for what is refused at last
+pub convert-front : (limits : Bounds) (history : List Act) (account event set amount now : ℕ) (made : EventView) → let q : Question = question limits history account (Convert event set amount) now in
+    (account == EXCHANGE) ≡ false → (set == 0) ≡ false → slice_get (events history) event ≡ Some made → nat_le (2 ^ length made.conditions) set ≡ false
+    → verdict q ≡ first_some (option_map (λ short. Unfunded short.1 short.0) (short_question (balance history account) amount set made.conditions)
+    ∷ None ∷ None ∷ None ∷ None ∷ supply_limit q ∷ entries_limit q ∷ where_ (nat_le limits.history (length history)) HistoryFull ∷ [])
+convert-front limits history account event set amount now made allowed some at inside =
+    let q : Question = question limits history account (Convert event set amount) now in
+    let rest : List (Option Refusal) =
+    None ∷ None ∷ None ∷ None ∷ None ∷ None ∷ None ∷ None
+    ∷ None ∷ None ∷ None ∷ None ∷ None ∷ None ∷ None ∷ None ∷ None ∷ None
+    ∷ option_map (λ short. Unfunded short.1 short.0) (short_question (balance history account) amount set made.conditions) ∷ None ∷ None ∷ None ∷ None
+    ∷ supply_limit q ∷ entries_limit q ∷ where_ (nat_le limits.history (length history)) HistoryFull ∷ [] in
+    conversion-refused limits history account event set amount now allowed some
+    ∙ (ap (λ (o : Option EventView). first_some (conversion_refusals q (balance history account) amount set o)) at
+    ∙ ap (λ (b : Bool). first_some (where_ b BadSet ∷ rest)) inside)
+
+-- one that is refused for its set, or for an event that isn't made
+pub convert-outside : (limits : Bounds) (history : List Act) (account event set amount now : ℕ) (o : Option EventView) → let q : Question = question limits history account (Convert event set amount) now in
+    (account == EXCHANGE) ≡ false → (set == 0) ≡ false → slice_get (events history) event ≡ o → is_outside o set ≡ true → verdict q ≡ Some BadSet
+convert-outside limits history account event set amount now o allowed some at outside =
+    let q : Question = question limits history account (Convert event set amount) now in
+    conversion-refused limits history account event set amount now allowed some
+    ∙ (ap (λ (x : Option EventView). first_some (conversion_refusals q (balance history account) amount set x)) at ∙ by o outside)
+  where
+    by : (o : Option EventView) → is_outside o set ≡ true → first_some (conversion_refusals (question limits history account (Convert event set amount) now) (balance history account) amount set o) ≡ Some BadSet
+    by None outside = cc
+    by (Some made) outside = rw outside refl

@@ -1,26 +1,32 @@
 -- How much a command posts.
-use Rattle.std.proofs.Common.{Option, None, Some, ◌≡◌, ℕ, ◌+◌, ◌≤◌, ◌&&◌, true, List, [], ◌∷◌, length, arith, length-append}
-use Rattle.std.specs.Prelude.{map, nat_le}
+use Rattle.std.proofs.Common.{Option, None, Some, ◌≡◌, ℕ, suc, ◌+◌, ◌*◌, ◌≤◌, ◌&&◌, true, List, [], ◌∷◌, ◌++◌, length, refl, arith, inl, inr, length-append}
+use Rattle.std.specs.Int.{bit_at}
+use Rattle.std.specs.Prelude.{◌==◌, ⊤, map, nat_le, slice_get, MatchOption}
 use Rattle.std.specs.List.{list_all}
-use Rattle.std.proofs.lemmas.Bool.{and_parts}
+use Rattle.std.proofs.lemmas.Bool.{and_parts, cases_Bool}
 use Rattle.std.proofs.lemmas.Bool.Decides.{nat_tests}
 use Rattle.std.proofs.lemmas.List.{length-map}
-use Rattle.collection_keys.specs.Collections.{Pairs, joined}
-use Rattle.command_words.specs.Command.{in_ranges}
+use Rattle.collection_keys.specs.Collections.{Pairs, joined, root}
+use Rattle.command_words.specs.Command.{in_ranges, makes_act}
 use Rattle.command_words.specs.Ranges.{is_key, is_condition, is_sets, is_amount, is_bits, has_up_to}
-use Rattle.command_words.specs.Reply.{IsSound}
+use Rattle.command_words.specs.Reply.{IsSound, rests_of}
 use Rattle.command_words.specs.declared.act.Act.{Act}
 use Rattle.command_words.specs.declared.act.TheConstants.{MAX_HISTORY}
 use Rattle.command_words.specs.declared.command.Command.{Command}
-use Rattle.command_words.specs.declared.command.Command.TheVariants.{Deposit, Withdraw, Move, Split, Merge, Redeem}
+use Rattle.command_words.specs.declared.command.Command.TheVariants.{Deposit, Withdraw, Move, Split, Merge, Redeem, Convert, Cross, Balance, Order, Vault}
 use Rattle.command_words.specs.declared.ranges.TheConstants.{MAX_SETS}
+use Rattle.condition_sets.specs.declared.names.TheConstants.{OPERATOR}
+use Rattle.convert_positions.proofs.Counting.{chosen-some}
+use Rattle.convert_positions.specs.Converting.{IsChoice, cash_of, chosen, chosen_from, fee_of, no_of, others, others_from, out_of, paid_for, yes_of}
+use Rattle.event_table.specs.Events.{EventView}
 use Rattle.ledger_book.specs.Postings.{credit, debit}
+use Rattle.ledger_book.specs.declared.posting.Posting.{Posting}
 use Rattle.report_redeem.proofs.Redemptions.{redeemed-many, sums-many}
 use Rattle.split_merge.specs.Splitting.{parts_of, split_postings, merge_postings}
-use Rattle.settle_core.specs.Book.{Book, book, held_in, numerators_on, postings_of, redeemed_in, reports, sums_in}
+use Rattle.settle_core.specs.Book.{Book, book, converted_in, events, held_in, postings_of, redeemed_in, sums_in, told, told_on}
 use Rattle.settle_core.specs.Kept.{most_posted}
 use Rattle.settle_core.specs.Keys.{whole_in}
-use Rattle.settle_core.specs.Reply.{accepted_reply}
+use Rattle.settle_core.specs.Reply.{accepted_reply, converted_reply}
 
 sets-few : (sets : List ℕ) → is_sets sets ≡ true → length sets ≤ MAX_SETS
 sets-few sets is =
@@ -68,19 +74,85 @@ pub sums-few : (b : Book) (a : ℕ) (parent : Pairs) (condition : ℕ) (sets : L
 sums-few b a parent condition sets None few = omega arith
 sums-few b a parent condition sets (Some ns) few = omega (arith, few, sums-many (held_in b) a parent condition ns sets)
 
+-- each question is chosen or one of the others
+parted-many : (set place : ℕ) (cs : List ℕ) → length (chosen_from set place cs) + length (others_from set place cs) ≡ length cs
+parted-many set place [] = omega arith
+parted-many set place (c ∷ cs) =
+    elim (cases_Bool (bit_at set place == 1)) [
+      | inl here ↦ rw here (omega (arith, parted-many set (suc place) cs))
+      | inr other ↦ rw other (omega (arith, parted-many set (suc place) cs))
+    ]
+
+paid-many : (a each set : ℕ) (cs : List ℕ) → length (paid_for a each set cs) ≡ length (others set cs) + 1
+paid-many a each set cs =
+    omega (
+      arith,
+      length-append (map (λ c. credit a (yes_of c) each) (others set cs)) (credit a root (cash_of each set cs) ∷ []),
+      length-map (others set cs) (λ (c : ℕ). credit a (yes_of c) each),
+    )
+
+-- a conversion takes NO of some questions, and pays YES of the others and cash to two accounts
+converted-many : (a set amount : ℕ) (event : EventView) → length (converted_in (Some event) a set amount) + length (chosen set event.conditions) ≡ 2 * length event.conditions + 2
+converted-many a set amount event =
+    let cs = event.conditions in
+    let out = paid_for a (out_of amount event.bips) set cs in
+    let fee = paid_for OPERATOR (fee_of amount event.bips) set cs in
+    let taken : List Posting = map (λ c. debit a (no_of c) amount) (chosen set cs) in
+    omega (
+      arith,
+      length-append taken (out ++ fee),
+      length-append out fee,
+      length-map (chosen set cs) (λ (c : ℕ). debit a (no_of c) amount),
+      paid-many a (out_of amount event.bips) set cs,
+      paid-many OPERATOR (fee_of amount event.bips) set cs,
+      parted-many set 0 cs,
+    )
+
+pub converted-some : (a set amount : ℕ) (event : EventView) → 1 ≤ length (converted_in (Some event) a set amount)
+converted-some a set amount event = omega (arith, converted-many a set amount event, parted-many set 0 event.conditions)
+
+-- a set that chooses questions of an event chooses one at least
+abbrev pub AreChoices : List EventView → Command → Type 0
+AreChoices made (Convert event set amount) = MatchOption (slice_get made event) ⊤ (λ e. (length e.conditions ≤ 32) × IsChoice (length e.conditions) set)
+AreChoices made command = ⊤
+
+converted-few : (a set amount : ℕ) (o : Option EventView) → MatchOption o ⊤ (λ e. (length e.conditions ≤ 32) × IsChoice (length e.conditions) set) → length (converted_in o a set amount) ≤ most_posted
+converted-few a set amount None fits = omega arith
+converted-few a set amount (Some event) fits = omega (arith, fits.0, converted-many a set amount event, chosen-some set event.conditions fits.1)
+
 -- a command in its ranges posts few
-pub posted-few : (b : Book) (a : ℕ) (command : Command) → in_ranges command ≡ true → length (postings_of b a command) ≤ most_posted
-posted-few b a (Deposit to amount) ranges = omega arith
-posted-few b a (Split parent condition sets amount) ranges =
+pub posted-few : (b : Book) (a : ℕ) (command : Command) → in_ranges command ≡ true → AreChoices b.events command → length (postings_of b a command) ≤ most_posted
+posted-few b a (Deposit to amount) ranges choices = omega arith
+posted-few b a (Split parent condition sets amount) ranges choices =
     omega (arith, split-many a (whole_in b.conditions parent condition sets) (parts_of parent condition sets) amount, parts-many parent condition sets, sets-in parent condition sets amount ranges)
-posted-few b a (Merge parent condition sets amount) ranges =
+posted-few b a (Merge parent condition sets amount) ranges choices =
     omega (arith, merge-many a (whole_in b.conditions parent condition sets) (parts_of parent condition sets) amount, parts-many parent condition sets, sets-in parent condition sets amount ranges)
-posted-few b a (Withdraw amount) ranges = omega arith
-posted-few b a (Move to key amount) ranges = omega arith
-posted-few b a (Redeem parent condition sets) ranges = redeemed-few b a parent condition sets (numerators_on b.reports condition) (sets-redeemed parent condition sets ranges)
-posted-few b a command ranges = omega arith
+posted-few b a (Withdraw amount) ranges choices = omega arith
+posted-few b a (Move to key amount) ranges choices = omega arith
+posted-few b a (Redeem parent condition sets) ranges choices = redeemed-few b a parent condition sets (told_on b condition) (sets-redeemed parent condition sets ranges)
+posted-few b a (Convert event set amount) ranges choices = converted-few a set amount (slice_get b.events event) choices
+posted-few b a command ranges choices = omega arith
+
+-- the reply to a conversion
+converted-sound : (lsn set amount : ℕ) (o : Option EventView) → lsn ≤ MAX_HISTORY → IsSound (converted_reply lsn o set amount)
+converted-sound lsn set amount None within = within
+converted-sound lsn set amount (Some event) within = within
 
 -- the reply to an accepted command in its ranges
 pub reply-sound : (history : List Act) (a : ℕ) (command : Command) → in_ranges command ≡ true → length history ≤ MAX_HISTORY → IsSound (accepted_reply history a command)
-reply-sound history a (Redeem parent condition sets) ranges within = (within, sums-few (book history) a parent condition sets (numerators_on (reports history) condition) (sets-redeemed parent condition sets ranges))
+reply-sound history a (Redeem parent condition sets) ranges within = (within, sums-few (book history) a parent condition sets (told history condition) (sets-redeemed parent condition sets ranges))
+reply-sound history a (Convert event set amount) ranges within = converted-sound (length history) set amount (slice_get (events history) event) within
 reply-sound history a command ranges within = within
+
+-- the reply to an accepted command that makes an act rests on that act
+pub accepted-rests : (history : List Act) (a : ℕ) (command : Command) → makes_act command ≡ true → rests_of (accepted_reply history a command) ≡ length history + 1
+accepted-rests history a (Cross market) acts = cc
+accepted-rests history a (Balance holder key) acts = cc
+accepted-rests history a (Order order) acts = cc
+accepted-rests history a Vault acts = cc
+accepted-rests history a (Convert event set amount) acts = by (slice_get (events history) event)
+  where
+    by : (o : Option EventView) → rests_of (converted_reply (length history) o set amount) ≡ length history + 1
+    by None = refl
+    by (Some e) = refl
+accepted-rests history a command acts = refl

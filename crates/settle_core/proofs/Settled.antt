@@ -1,9 +1,8 @@
 -- What holds of each legal history: what is posted and reported is right, and at each lawful outcome the vault covers what
 -- all holdings are worth.
-use Rattle.std.proofs.Common.{◌≡◌, ℕ, zero, suc, ◌+◌, ◌*◌, ◌<◌, ◌≤◌, Bool, true, false, cond, List, [], ◌∷◌, ◌++◌, length, Option, Some, None, All, refl, sym, ap, subst, ◌∙◌, arith, inl, inr, length-append}
+use Rattle.std.proofs.Common.{◌≡◌, ℕ, suc, ◌+◌, ◌*◌, ◌<◌, ◌≤◌, Bool, true, false, cond, List, [], ◌∷◌, ◌++◌, length, Option, Some, None, All, refl, sym, ap, subst, ◌∙◌, arith, length-append, append-nil, append_assoc}
 use Rattle.std.specs.Prelude.{◌==◌, sum, slice_get, MatchOption}
-use Rattle.std.proofs.lemmas.Bool.{cases_Bool, eqb-true}
-use Rattle.std.proofs.lemmas.Bool.Decides.{nat_tests}
+use Rattle.std.proofs.lemmas.Bool.{eqb-true}
 use Rattle.std.proofs.lemmas.List.Elements.{All-weaker}
 use Rattle.std.proofs.lemmas.Option.{slice_get_within}
 use Rattle.collection_keys.specs.Collections.{Pairs, part}
@@ -12,15 +11,16 @@ use Rattle.condition_table.specs.Shares.{weighted}
 use Rattle.condition_table.specs.declared.facts.Facts.{Facts}
 use Rattle.coverage_law.proofs.Needs.{paid-append, taken-append, paid-same, taken-same, paid-weighted, taken-weighted}
 use Rattle.coverage_law.proofs.Weights.{weighted-le, weighted-sum, weighted-constant}
-use Rattle.coverage_law.proofs.Worths.{prepared-worth, prepared-denominator, reported-worth, reported-denominator, with_slot-lawful}
+use Rattle.coverage_law.proofs.Worths.{prepared-worth, prepared-denominator, reported-worth, reported-denominator}
 use Rattle.coverage_law.specs.Need.{paid_worth, taken_worth}
-use Rattle.coverage_law.specs.Outcomes.{Outcome, IsLawful, with_slot}
+use Rattle.coverage_law.specs.Outcomes.{Outcome, with_slot}
 use Rattle.coverage_law.specs.Worth.{Results, worth, denominator, prepared, reported}
 use Rattle.ledger_book.specs.Postings.{IsFunded}
 use Rattle.ledger_book.specs.declared.posting.Posting.{Posting}
 use Rattle.settle_core.specs.Book.{Payouts, numerators_on}
 use Rattle.settle_core.proofs.Known.{AreKnown, known-later, known-none}
-use Rattle.settle_core.proofs.Moves.{AreRight}
+use Rattle.settle_core.proofs.Lists.{holds-before}
+use Rattle.settle_core.proofs.Orderly.{AreRight, numerators-more}
 
 -- what is known of these conditions
 abbrev pub known_of : List Facts → List Payouts → Results
@@ -38,68 +38,57 @@ IsPaidExactly conditions reports ps paid_in paid_out outcome =
     let r = known_of conditions reports in
     paid_worth (worth r outcome) ps + paid_out * denominator r ≡ taken_worth (worth r outcome) ps + paid_in * denominator r
 
--- no position is below 0, what is posted is of prepared conditions, these have slots, what was reported on them may be, and
--- the vault covers what is held
-pub record IsSettled (conditions : List Facts) (reports : List Payouts) (ps : List Posting) (paid_in paid_out : ℕ) : Type 0 where
+-- no position is below 0, what is posted is of prepared conditions, and the vault covers what is held at each outcome that is
+-- lawful; before any report it is exactly that where it won
+pub record IsSettled (conditions : List Facts) (reports : List Payouts) (ps : List Posting) (paid_in paid_out : ℕ) (IsOne HasWon : Outcome → Type 0) : Type 0 where
   pub above : IsFunded (λ a k. 0) ps
   pub known : AreKnown (length conditions) ps
-  pub slots : (c : ℕ) (f : Facts) → slice_get conditions c ≡ Some f → 0 < f.slots
-  pub right : AreRight conditions (numerators_on reports)
-  pub within : (outcome : Outcome) → IsLawful conditions outcome → IsPaidWithin conditions reports ps paid_in paid_out outcome
-  pub exact : reports ≡ [] → (outcome : Outcome) → IsLawful conditions outcome → IsPaidExactly conditions reports ps paid_in paid_out outcome
+  pub within : (outcome : Outcome) → IsOne outcome → IsPaidWithin conditions reports ps paid_in paid_out outcome
+  pub exact : reports ≡ [] → (outcome : Outcome) → IsOne outcome → HasWon outcome → IsPaidExactly conditions reports ps paid_in paid_out outcome
 
 -- ---- at the start
 
-pub settled-start : IsSettled [] [] [] 0 0
+pub settled-start : (IsOne HasWon : Outcome → Type 0) → IsSettled [] [] [] 0 0 IsOne HasWon
 unfolding paid_worth taken_worth
-settled-start = record {
+settled-start IsOne HasWon = record {
   above = λ a k. omega arith;
   known = known-none 0;
-  slots = λ c f at. cc;
-  right = λ c ns is. cc;
   within = λ outcome lawful. omega arith;
-  exact = λ none outcome lawful. refl;
+  exact = λ none outcome lawful won. refl;
+}
+
+-- ---- fewer outcomes
+
+-- what holds at some outcomes holds at fewer
+pub settled-fewer : (conditions : List Facts) (reports : List Payouts) (ps : List Posting) (paid_in paid_out : ℕ) (IsOne HasWon IsOne' HasWon' : Outcome → Type 0) → IsSettled conditions reports ps paid_in paid_out IsOne HasWon
+    → ((outcome : Outcome) → IsOne' outcome → IsOne outcome) → ((outcome : Outcome) → HasWon' outcome → HasWon outcome) → IsSettled conditions reports ps paid_in paid_out IsOne' HasWon'
+settled-fewer conditions reports ps paid_in paid_out IsOne HasWon IsOne' HasWon' so_far one won = record {
+  above = so_far.above;
+  known = so_far.known;
+  within = λ outcome lawful. so_far.within outcome (one outcome lawful);
+  exact = λ none outcome lawful wins. so_far.exact none outcome (one outcome lawful) (won outcome wins);
 }
 
 -- ---- a command that posts
 
 -- sums of worth grow by what is posted
-pub settled-posted : (conditions : List Facts) (reports : List Payouts) (ps qs : List Posting) (paid_in paid_out more_in more_out : ℕ) → IsSettled conditions reports ps paid_in paid_out
+pub settled-posted : (conditions : List Facts) (reports : List Payouts) (ps qs : List Posting) (paid_in paid_out more_in more_out : ℕ) (IsOne HasWon : Outcome → Type 0) → IsSettled conditions reports ps paid_in paid_out IsOne HasWon
     → IsFunded (λ a k. 0) (ps ++ qs) → AreKnown (length conditions) (ps ++ qs)
-    → ((outcome : Outcome) → IsLawful conditions outcome → IsPaidWithin conditions reports qs more_in more_out outcome)
-    → (reports ≡ [] → (outcome : Outcome) → IsLawful conditions outcome → IsPaidExactly conditions reports qs more_in more_out outcome)
-    → IsSettled conditions reports (ps ++ qs) (paid_in + more_in) (paid_out + more_out)
-settled-posted conditions reports ps qs paid_in paid_out more_in more_out so_far above known within exact = record {
+    → ((outcome : Outcome) → IsOne outcome → IsPaidWithin conditions reports qs more_in more_out outcome)
+    → (reports ≡ [] → (outcome : Outcome) → IsOne outcome → HasWon outcome → IsPaidExactly conditions reports qs more_in more_out outcome)
+    → IsSettled conditions reports (ps ++ qs) (paid_in + more_in) (paid_out + more_out) IsOne HasWon
+settled-posted conditions reports ps qs paid_in paid_out more_in more_out IsOne HasWon so_far above known within exact = record {
   above = above;
   known = known;
-  slots = so_far.slots;
-  right = so_far.right;
   within = λ outcome lawful.
       let v : Pairs → ℕ = worth (known_of conditions reports) outcome in
       omega (arith, so_far.within outcome lawful, within outcome lawful, paid-append v ps qs, taken-append v ps qs);
-  exact = λ none outcome lawful.
+  exact = λ none outcome lawful won.
       let v : Pairs → ℕ = worth (known_of conditions reports) outcome in
-      omega (arith, so_far.exact none outcome lawful, exact none outcome lawful, paid-append v ps qs, taken-append v ps qs);
+      omega (arith, so_far.exact none outcome lawful won, exact none outcome lawful won, paid-append v ps qs, taken-append v ps qs);
 }
 
 -- ---- a condition is prepared
-
--- a condition that was there is there
-there-before : (conditions : List Facts) (f g : Facts) (c : ℕ) → slice_get conditions c ≡ Some g → slice_get (conditions ++ f ∷ []) c ≡ Some g
-there-before [] f g c at = cc
-there-before (x ∷ xs) f g zero at = at
-there-before (x ∷ xs) f g (suc c) at = there-before xs f g c at
-
--- and one that is there was there, or is the new one
-there-after : (conditions : List Facts) (f g : Facts) (c : ℕ) → slice_get (conditions ++ f ∷ []) c ≡ Some g → 0 < f.slots → ((d : ℕ) (h : Facts) → slice_get conditions d ≡ Some h → 0 < h.slots) → 0 < g.slots
-there-after [] f g zero at some others = let same : Some f ≡ Some g = at in subst (λ (h : Option Facts). MatchOption h ⊥ (λ x. 0 < x.slots)) same some
-there-after [] f g (suc c) at some others = cc
-there-after (x ∷ xs) f g zero at some others = others zero g at
-there-after (x ∷ xs) f g (suc c) at some others = there-after xs f g c at some (λ d h is. others (suc d) h is)
-
--- an outcome that is lawful with one condition more is lawful without it
-lawful-before : (conditions : List Facts) (f : Facts) (outcome : Outcome) → IsLawful (conditions ++ f ∷ []) outcome → IsLawful conditions outcome
-lawful-before conditions f outcome lawful = record { slots = λ c g at. lawful.slots c g (there-before conditions f g c at) }
 
 -- nothing is reported on a condition that isn't there
 unreported : (conditions : List Facts) (reports : List Payouts) → AreRight conditions (numerators_on reports) → (o : Option (List ℕ)) → numerators_on reports (length conditions) ≡ o → o ≡ None
@@ -122,23 +111,21 @@ prepared-known conditions f reports right =
     each c true is = ap (numerators_on reports) (eqb-true c (length conditions) is) ∙ unreported conditions reports right (numerators_on reports (length conditions)) refl
     each c false is = refl
 
-pub settled-prepared : (conditions : List Facts) (reports : List Payouts) (ps : List Posting) (paid_in paid_out : ℕ) (f : Facts) → IsSettled conditions reports ps paid_in paid_out → 0 < f.slots
-    → IsSettled (conditions ++ f ∷ []) reports ps paid_in paid_out
-settled-prepared conditions reports ps paid_in paid_out f so_far some = record {
+pub settled-prepared : (conditions : List Facts) (reports : List Payouts) (ps : List Posting) (paid_in paid_out : ℕ) (IsOne HasWon : Outcome → Type 0) (f : Facts) → AreRight conditions (numerators_on reports)
+    → IsSettled conditions reports ps paid_in paid_out IsOne HasWon → IsSettled (conditions ++ f ∷ []) reports ps paid_in paid_out IsOne HasWon
+settled-prepared conditions reports ps paid_in paid_out IsOne HasWon f right so_far = record {
   above = so_far.above;
   known = known-later (length conditions) (length (conditions ++ f ∷ [])) ps (omega (arith, length-append conditions (f ∷ []))) so_far.known;
-  slots = λ c g at. there-after conditions f g c at some so_far.slots;
-  right = λ c ns is. kept c ns (slice_get conditions c) refl (so_far.right c ns is);
   within = λ outcome lawful.
-      let so : IsPaidWithin conditions reports ps paid_in paid_out outcome = so_far.within outcome (lawful-before conditions f outcome lawful) in
+      let so : IsPaidWithin conditions reports ps paid_in paid_out outcome = so_far.within outcome lawful in
       omega (arith, so, paid outcome, taken outcome, whole);
-  exact = λ none outcome lawful.
-      let so : IsPaidExactly conditions reports ps paid_in paid_out outcome = so_far.exact none outcome (lawful-before conditions f outcome lawful) in
+  exact = λ none outcome lawful won.
+      let so : IsPaidExactly conditions reports ps paid_in paid_out outcome = so_far.exact none outcome lawful won in
       omega (arith, so, paid outcome, taken outcome, whole);
 }
   where
     same : known_of (conditions ++ f ∷ []) reports ≡ prepared (known_of conditions reports)
-    same = prepared-known conditions f reports so_far.right
+    same = prepared-known conditions f reports right
 
     each : (outcome : Outcome) → All (λ p. worth (known_of (conditions ++ f ∷ []) reports) outcome p.collection ≡ worth (known_of conditions reports) outcome p.collection) ps
     each outcome =
@@ -157,72 +144,42 @@ settled-prepared conditions reports ps paid_in paid_out f so_far some = record {
     whole : (paid_in * denominator (known_of (conditions ++ f ∷ []) reports) ≡ paid_in * denominator (known_of conditions reports)) × (paid_out * denominator (known_of (conditions ++ f ∷ []) reports) ≡ paid_out * denominator (known_of conditions reports))
     whole = (ap (λ n. paid_in * n) den, ap (λ n. paid_out * n) den)
 
-    kept : (c : ℕ) (ns : List ℕ) (o : Option Facts) → slice_get conditions c ≡ o → MatchOption o ⊥ (λ g. IsReport g.slots ns) → MatchOption (slice_get (conditions ++ f ∷ []) c) ⊥ (λ g. IsReport g.slots ns)
-    kept c ns None is right = absurd right
-    kept c ns (Some g) is right = subst (λ (o : Option Facts). MatchOption o ⊥ (λ h. IsReport h.slots ns)) (sym (there-before conditions f g c is)) right
+-- so are several
+pub settled-all : (conditions : List Facts) (reports : List Payouts) (ps : List Posting) (paid_in paid_out : ℕ) (IsOne HasWon : Outcome → Type 0) (fs : List Facts) → AreRight conditions (numerators_on reports)
+    → IsSettled conditions reports ps paid_in paid_out IsOne HasWon → IsSettled (conditions ++ fs) reports ps paid_in paid_out IsOne HasWon
+settled-all conditions reports ps paid_in paid_out IsOne HasWon [] right so_far =
+    subst (λ (cs : List Facts). IsSettled cs reports ps paid_in paid_out IsOne HasWon) (sym (append-nil conditions)) so_far
+settled-all conditions reports ps paid_in paid_out IsOne HasWon (f ∷ fs) right so_far =
+    subst (λ (cs : List Facts). IsSettled cs reports ps paid_in paid_out IsOne HasWon) (append_assoc conditions (f ∷ []) fs)
+    (settled-all (conditions ++ f ∷ []) reports ps paid_in paid_out IsOne HasWon fs
+    (λ c ns is. holds-before (λ (g : Facts). IsReport g.slots ns) conditions (f ∷ []) c (right c ns is))
+    (settled-prepared conditions reports ps paid_in paid_out IsOne HasWon f right so_far))
 
 -- ---- a report
-
--- two numbers that are the one and not the other differ
-other-place : (r c d : ℕ) → (r == d) ≡ true → (r == c) ≡ false → (d == c) ≡ false
-other-place r c d here other = grind (arith, nat_tests, here, other)
 
 -- a product in another order
 turned : (x y z : ℕ) → x * (y * z) ≡ y * (x * z)
 turned x y z = omega arith
 
--- one report more, on a condition that wasn't reported
-pub numerators-more : (reports : List Payouts) (c : ℕ) (ns : List ℕ) (d : ℕ) → numerators_on reports c ≡ None
-    → numerators_on (reports ++ record { condition = c; numerators = ns } ∷ []) d ≡ cond (d == c) (Some ns) (numerators_on reports d)
-numerators-more [] c ns d none = by (c == d) (d == c) (grind (arith, nat_tests))
-  where
-    by : (b e : Bool) → b ≡ e → cond b (Some ns) None ≡ cond e (Some ns) None
-    by b e same = ap (λ x. cond x (Some ns) None) same
-numerators-more (r ∷ rs) c ns d none =
-    elim (cases_Bool (r.condition == d)) [
-      | inl here ↦
-          let other : (d == c) ≡ false = other-place r.condition c d here (missed (r.condition == c) none) in
-          rw (here, other) refl
-      | inr past ↦ rw past (numerators-more rs c ns d (rest (r.condition == c) none))
-    ]
-  where
-    missed : (b : Bool) → cond b (Some r.numerators) (numerators_on rs c) ≡ None → b ≡ false
-    missed true e = cc
-    missed false e = refl
-
-    rest : (b : Bool) → cond b (Some r.numerators) (numerators_on rs c) ≡ None → numerators_on rs c ≡ None
-    rest true e = cc
-    rest false e = e
-
 reported-known : (conditions : List Facts) (reports : List Payouts) (c : ℕ) (ns : List ℕ) → numerators_on reports c ≡ None
     → known_of conditions (reports ++ record { condition = c; numerators = ns } ∷ []) ≡ reported (known_of conditions reports) c ns
 reported-known conditions reports c ns none = λ i. record { conditions = length conditions; numerators = λ d. numerators-more reports c ns d none i }
-
--- what is told of a condition after it
-right-after : (conditions : List Facts) (reports : List Payouts) (c : ℕ) (f : Facts) (ns : List ℕ) → AreRight conditions (numerators_on reports) → slice_get conditions c ≡ Some f → IsReport f.slots ns
-    → (d : ℕ) (ms : List ℕ) (b : Bool) → (d == c) ≡ b → cond b (Some ns) (numerators_on reports d) ≡ Some ms → MatchOption (slice_get conditions d) ⊥ (λ g. IsReport g.slots ms)
-right-after conditions reports c f ns right at is d ms true here told =
-    let place : slice_get conditions d ≡ Some f = ap (slice_get conditions) (eqb-true d c here) ∙ at in
-    let same : Some ns ≡ Some ms = told in
-    subst (λ (o : Option Facts). MatchOption o ⊥ (λ g. IsReport g.slots ms)) (sym place) (subst (λ (o : Option (List ℕ)). MatchOption o ⊥ (λ ks. IsReport f.slots ks)) same is)
-right-after conditions reports c f ns right at is d ms false other told = right d ms told
 
 -- something stands behind a list
 not-none : {X : Type 0} (xs : List X) (x : X) → xs ++ x ∷ [] ≡ [] → ⊥
 not-none xs x none = absurd (omega (arith, ap length none, length-append xs (x ∷ [])))
 
-pub settled-reported : (conditions : List Facts) (reports : List Payouts) (ps : List Posting) (paid_in paid_out c : ℕ) (f : Facts) (ns : List ℕ) → IsSettled conditions reports ps paid_in paid_out
-    → slice_get conditions c ≡ Some f → numerators_on reports c ≡ None → IsReport f.slots ns
-    → IsSettled conditions (reports ++ record { condition = c; numerators = ns } ∷ []) ps paid_in paid_out
-settled-reported conditions reports ps paid_in paid_out c f ns so_far at none is = record {
+pub settled-reported : (conditions : List Facts) (reports : List Payouts) (ps : List Posting) (paid_in paid_out : ℕ) (IsOne HasWon : Outcome → Type 0) (c : ℕ) (f : Facts) (ns : List ℕ)
+    → IsSettled conditions reports ps paid_in paid_out IsOne HasWon → slice_get conditions c ≡ Some f → numerators_on reports c ≡ None → IsReport f.slots ns
+    → ((outcome : Outcome) (s : ℕ) → IsOne outcome → s < f.slots → IsOne (with_slot outcome c s))
+    → IsSettled conditions (reports ++ record { condition = c; numerators = ns } ∷ []) ps paid_in paid_out IsOne HasWon
+settled-reported conditions reports ps paid_in paid_out IsOne HasWon c f ns so_far at none is stays = record {
   above = so_far.above;
   known = so_far.known;
-  slots = so_far.slots;
-  right = λ d ms told. right-after conditions reports c f ns so_far.right at is d ms (d == c) refl (sym (numerators-more reports c ns d none) ∙ told);
   within = λ outcome lawful.
       let each : weighted ns (λ s. paid outcome s + paid_out * den) ≤ weighted ns (λ s. taken outcome s + paid_in * den)
       = weighted-le ns (λ s. paid outcome s + paid_out * den) (λ s. taken outcome s + paid_in * den)
-      (λ s inside. so_far.within (with_slot outcome c s) (with_slot-lawful conditions outcome c s f lawful at (omega (arith, inside, is.each)))) in
+      (λ s inside. so_far.within (with_slot outcome c s) (stays outcome s lawful (omega (arith, inside, is.each)))) in
       omega (
         arith,
         each,
@@ -235,7 +192,7 @@ settled-reported conditions reports ps paid_in paid_out c f ns so_far at none is
         parts paid_out,
         parts paid_in,
       );
-  exact = λ nothing outcome lawful. absurd (not-none reports (record { condition = c; numerators = ns }) nothing);
+  exact = λ nothing outcome lawful won. absurd (not-none reports (record { condition = c; numerators = ns }) nothing);
 }
   where
     r : Results

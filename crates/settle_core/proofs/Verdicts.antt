@@ -1,6 +1,6 @@
 -- What follows from a verdict.
 use Rattle.std.proofs.Common.{◌≡◌, ℕ, ◌+◌, ◌<◌, ◌≤◌, List, [], ◌∷◌, ◌++◌, length, Option, Some, None, refl, arith, Bool, true, false}
-use Rattle.std.specs.Prelude.{nat_le, nat_lt, ◌&&◌, option_map, Err}
+use Rattle.std.specs.Prelude.{nat_le, nat_lt, ◌&&◌, not, option_map, Err}
 use Rattle.std.proofs.lemmas.Bool.Decides.{nat_tests}
 use Rattle.collection_keys.specs.Collections.{Pairs}
 use Rattle.collection_keys.specs.declared.collection.TheConstants.{MAX_PAIRS}
@@ -11,15 +11,14 @@ use Rattle.command_words.specs.Ranges.{is_short}
 use Rattle.command_words.specs.declared.command.Command.{Command}
 use Rattle.command_words.specs.declared.command.Command.TheVariants.{Deposit, Split, Merge, Move, Redeem, Place}
 use Rattle.command_words.specs.declared.refusal.Refusal.{Refusal}
-use Rattle.command_words.specs.declared.refusal.Refusal.TheVariants.{NoCondition, AlreadyPrepared, TableFull, BadSet, BadPartition, Held, TooDeep, AlreadyReported, BadPayouts, NotReported, Unfunded, VaultLimit, SupplyLimit, EntriesLimit, HistoryFull, Memory}
-use Rattle.ledger_book.specs.Planning.{first_short}
+use Rattle.command_words.specs.declared.refusal.Refusal.TheVariants.{NotAllowed, NoCondition, AlreadyPrepared, TableFull, BadSet, BadPartition, Held, TooDeep, AlreadyReported, BadPayouts, NotReported, NoEvent, Determined, Unfunded, VaultLimit, SupplyLimit, EntriesLimit, HistoryFull, Memory}
 use Rattle.ledger_book.specs.Staging.{oversupplied}
-use Rattle.settle_core.specs.Book.{book, conditions, reports, postings, postings_of}
+use Rattle.settle_core.specs.Book.{book, conditions, events, postings, postings_of, told}
 use Rattle.settle_core.specs.Built.{is_built}
 use Rattle.settle_core.specs.Keys.{key_of, sets_of, is_held, most_pairs}
 use Rattle.settle_core.specs.Legal.{IsPlannable}
 use Rattle.settle_core.specs.Postings.{balance, supply, vault, deposit_of}
-use Rattle.settle_core.specs.Refusals.{Question, where_, not_allowed, names_none, no_condition, prepares_again, already_prepared, is_above_table, table_full, names_bad_set, bad_set, names_no_partition, bad_partition, already_held, too_deep, reports_again, already_reported, reports_badly, bad_payouts, redeems_early, not_reported, no_event, determined, no_market, no_order, not_open, order_expired, nonce_old, self_match, repeated_order, wrong_pair, not_crossing, overfill, exchange_short, too_little, still_funded, amount_of, taken_by, unfunded, is_above_vault, vault_limit, supply_limit, is_above_entries, entries_limit, history_full}
+use Rattle.settle_core.specs.Refusals.{Question, where_, may_ask, not_allowed, names_none, no_condition, prepares_again, already_prepared, is_above_table, table_full, names_bad_set, bad_set, names_no_partition, bad_partition, already_held, too_deep, reports_again, already_reported, reports_badly, bad_payouts, redeems_early, not_reported, names_no_event, no_event, winner_before, determined, no_market, no_order, not_open, order_expired, nonce_old, self_match, repeated_order, wrong_pair, not_crossing, overfill, exchange_short, too_little, still_funded, short_of, unfunded, is_above_vault, vault_limit, supply_limit, is_above_entries, entries_limit, history_full}
 use Rattle.settle_core.specs.Verdict.{verdict, first_some, AnsweredBy}
 
 -- a call that refuses by the verdict is answered by it
@@ -105,7 +104,7 @@ accepted-new q all =
     let new : already_prepared q ≡ None = assumption (all) in
     where_-none _ AlreadyPrepared new
 
-pub accepted-table : (q : Question) → AreNone (earlier q) → is_above_table q.limits.conditions (conditions q.history) q.command ≡ false
+pub accepted-table : (q : Question) → AreNone (earlier q) → is_above_table q.limits (conditions q.history) (events q.history) q.command ≡ false
 accepted-table q all =
     let room : table_full q ≡ None = assumption (all) in
     where_-none _ TableFull room
@@ -122,10 +121,27 @@ accepted-supply q none =
     map-none SupplyLimit (oversupplied (supply q.history) (postings_of (book q.history) q.account q.command)) within
 
 -- an accepted command takes what is there
-pub accepted-funds : (q : Question) → AreNone (earlier q) → first_short (balance q.history q.account) (amount_of q.command) (taken_by (conditions q.history) q.command) ≡ None
+pub accepted-funds : (q : Question) → AreNone (earlier q) → short_of (conditions q.history) (events q.history) (balance q.history q.account) q.command ≡ None
 accepted-funds q all =
     let funded : unfunded q ≡ None = assumption (all) in
-    map-none (λ (short : ℕ × ℕ). Unfunded short.1 short.0) (first_short (balance q.history q.account) (amount_of q.command) (taken_by (conditions q.history) q.command)) funded
+    map-none (λ (short : ℕ × ℕ). Unfunded short.1 short.0) (short_of (conditions q.history) (events q.history) (balance q.history q.account) q.command) funded
+
+-- an accepted command is one that its account may ask
+pub accepted-asked : (q : Question) → AreNone (earlier q) → not (may_ask (conditions q.history) (events q.history) q.account q.command) ≡ false
+accepted-asked q all =
+    let is : not_allowed q ≡ None = assumption (all) in
+    where_-none _ NotAllowed is
+
+-- the event that it names is made, and no other question of it was answered YES where it answers so
+pub accepted-event : (q : Question) → AreNone (earlier q) → names_no_event (events q.history) q.command ≡ false
+accepted-event q all =
+    let is : no_event q ≡ None = assumption (all) in
+    where_-none _ NoEvent is
+
+pub accepted-first_winner : (q : Question) → AreNone (earlier q) → winner_before (events q.history) q.command ≡ None
+accepted-first_winner q all =
+    let is : determined q ≡ None = assumption (all) in
+    map-none Determined (winner_before (events q.history) q.command) is
 
 -- an accepted command leaves as many balances as there may be
 pub accepted-entries : (q : Question) → verdict q ≡ None → is_above_entries q.limits.entries (postings q.history) (postings_of (book q.history) q.account q.command) ≡ false
@@ -135,7 +151,7 @@ accepted-entries q none =
     where_-none _ EntriesLimit few
 
 -- an accepted report is of a condition that wasn't reported, and may be one
-pub accepted-first : (q : Question) → AreNone (earlier q) → reports_again (reports q.history) q.command ≡ false
+pub accepted-first : (q : Question) → AreNone (earlier q) → reports_again (told q.history) (events q.history) q.command ≡ false
 accepted-first q all =
     let is : already_reported q ≡ None = assumption (all) in
     where_-none _ AlreadyReported is
@@ -146,7 +162,7 @@ accepted-payouts q all =
     where_-none _ BadPayouts is
 
 -- what an accepted redemption names was reported
-pub accepted-reported : (q : Question) → AreNone (earlier q) → redeems_early (reports q.history) q.command ≡ false
+pub accepted-reported : (q : Question) → AreNone (earlier q) → redeems_early (told q.history) q.command ≡ false
 accepted-reported q all =
     let is : not_reported q ≡ None = assumption (all) in
     where_-none _ NotReported is
@@ -170,12 +186,12 @@ accepted-free q all =
     where_-none _ Held free
 
 -- its conditions are prepared, and its sets proper
-pub accepted-prepared : (q : Question) → AreNone (earlier q) → names_none (conditions q.history) q.command ≡ false
+pub accepted-prepared : (q : Question) → AreNone (earlier q) → names_none (conditions q.history) (events q.history) q.command ≡ false
 accepted-prepared q all =
     let is : no_condition q ≡ None = assumption (all) in
     where_-none _ NoCondition is
 
-pub accepted-proper : (q : Question) → AreNone (earlier q) → names_bad_set (conditions q.history) q.command ≡ false
+pub accepted-proper : (q : Question) → AreNone (earlier q) → names_bad_set (conditions q.history) (events q.history) q.command ≡ false
 accepted-proper q all =
     let is : bad_set q ≡ None = assumption (all) in
     where_-none _ BadSet is

@@ -1,16 +1,19 @@
 -- The refusals of a command, each where its condition holds, in the order of their numbers. A rule names the commands
 -- for which it says something, and none of the others is refused by it.
-use Rattle.std.specs.Prelude.{◌==◌, ℕ, ◌+◌, ◌&&◌, ◌||◌, Bool, true, false, not, nat_lt, nat_le, if◌then◌else◌, List, [], ◌∷◌, ◌++◌, length, Option, Some, None, option_map, is_some, is_none, slice_get, sum}
+use Rattle.std.specs.Prelude.{◌==◌, ℕ, ◌+◌, ◌^◌, ◌&&◌, ◌||◌, Bool, true, false, not, nat_lt, nat_le, if◌then◌else◌, List, [], ◌∷◌, ◌++◌, length, Option, Some, None, option_map, is_some, is_none, slice_get, sum}
 use Rattle.condition_sets.specs.declared.amount.TheConstants.{MAX_AMOUNT}
 use Rattle.condition_sets.specs.declared.names.TheConstants.{OPERATOR, EXCHANGE}
 use Rattle.command_words.specs.Command.{makes_act}
 use Rattle.command_words.specs.declared.command.Command.{Command}
-use Rattle.command_words.specs.declared.command.Command.TheVariants.{Deposit, Withdraw, Move, Prepare, Split, Merge, Report, Redeem}
+use Rattle.command_words.specs.declared.command.Command.TheVariants.{Deposit, Withdraw, Move, Prepare, Event, Split, Merge, Report, Answer, Redeem, Convert}
 use Rattle.command_words.specs.declared.act.Act.{Act}
 use Rattle.command_words.specs.declared.refusal.Refusal.{Refusal}
-use Rattle.command_words.specs.declared.refusal.Refusal.TheVariants.{NotAllowed, NoCondition, AlreadyPrepared, TableFull, BadSet, BadPartition, Held, TooDeep, AlreadyReported, BadPayouts, NotReported, Unfunded, VaultLimit, SupplyLimit, EntriesLimit, HistoryFull}
+use Rattle.command_words.specs.declared.refusal.Refusal.TheVariants.{NotAllowed, NoCondition, AlreadyPrepared, TableFull, BadSet, BadPartition, Held, TooDeep, AlreadyReported, BadPayouts, NotReported, NoEvent, Determined, Unfunded, VaultLimit, SupplyLimit, EntriesLimit, HistoryFull}
 use Rattle.condition_table.specs.declared.facts.Facts.{Facts}
-use Rattle.settle_core.specs.Book.{Payouts, book, conditions, reports, numerators_on, postings, postings_of}
+use Rattle.convert_positions.specs.Converting.{short_question}
+use Rattle.convert_positions.specs.Questions.{conditions_in}
+use Rattle.event_table.specs.Events.{EventView, question_in, winner_in}
+use Rattle.settle_core.specs.Book.{book, conditions, events, postings, postings_of, told}
 use Rattle.settle_core.specs.Bounds.{Bounds}
 use Rattle.condition_table.specs.Conditions.{place_of}
 use Rattle.settle_core.specs.Keys.{is_unprepared, is_improper, key_of, sets_of, key_is_unprepared, sets_are_unprepared, key_is_improper, sets_are_improper, is_no_partition, is_held, most_pairs, whole_in}
@@ -42,24 +45,37 @@ abbrev pub may_report : Option Facts → ℕ → Bool
 may_report None account = true
 may_report (Some facts) account = facts.oracle == account
 
--- who may ask a command: deposits are the operator's, and the exchange's own account takes no part
-abbrev pub may_ask : List Facts → ℕ → Command → Bool
-may_ask prepared account (Deposit to amount) = (account == OPERATOR) && not (to == EXCHANGE)
-may_ask prepared account (Move to key amount) = not (account == EXCHANGE) && not (to == EXCHANGE)
-may_ask prepared account (Prepare oracle question slots) = not (account == EXCHANGE) && not (oracle == EXCHANGE)
-may_ask prepared account (Report condition payouts) = not (account == EXCHANGE) && may_report (slice_get prepared condition) account
-may_ask prepared account command = not (account == EXCHANGE)
+-- and an event's oracle alone may answer its questions, where it is made
+abbrev pub may_answer : Option EventView → ℕ → Bool
+may_answer None account = true
+may_answer (Some event) account = event.oracle == account
+
+-- who may ask a command: deposits and events are the operator's, and the exchange's own account takes no part
+abbrev pub may_ask : List Facts → List EventView → ℕ → Command → Bool
+may_ask prepared made account (Deposit to amount) = (account == OPERATOR) && not (to == EXCHANGE)
+may_ask prepared made account (Move to key amount) = not (account == EXCHANGE) && not (to == EXCHANGE)
+may_ask prepared made account (Prepare oracle question slots) = not (account == EXCHANGE) && not (oracle == EXCHANGE)
+may_ask prepared made account (Event oracle questions fee) = (account == OPERATOR) && not (oracle == EXCHANGE)
+may_ask prepared made account (Report condition payouts) = not (account == EXCHANGE) && may_report (slice_get prepared condition) account
+may_ask prepared made account (Answer event question won) = not (account == EXCHANGE) && may_answer (slice_get made event) account
+may_ask prepared made account command = not (account == EXCHANGE)
 
 abbrev pub not_allowed : Question → Option Refusal
-not_allowed q = where_ (not (may_ask (conditions q.history) q.account q.command)) NotAllowed
+not_allowed q = where_ (not (may_ask (conditions q.history) (events q.history) q.account q.command)) NotAllowed
 
--- a condition that the command names isn't prepared
-abbrev pub names_none : List Facts → Command → Bool
-names_none prepared (Report condition payouts) = is_unprepared prepared condition
-names_none prepared command = key_is_unprepared prepared (key_of command) || sets_are_unprepared prepared (sets_of command)
+-- an event has no question of a place
+abbrev pub is_past_questions : Option EventView → ℕ → Bool
+is_past_questions None question = false
+is_past_questions (Some event) question = nat_le (length event.conditions) question
+
+-- a condition that the command names isn't prepared, or the question that it names isn't there
+abbrev pub names_none : List Facts → List EventView → Command → Bool
+names_none prepared made (Report condition payouts) = is_unprepared prepared condition
+names_none prepared made (Answer event question won) = is_past_questions (slice_get made event) question
+names_none prepared made command = key_is_unprepared prepared (key_of command) || sets_are_unprepared prepared (sets_of command)
 
 abbrev pub no_condition : Question → Option Refusal
-no_condition q = where_ (names_none (conditions q.history) q.command) NoCondition
+no_condition q = where_ (names_none (conditions q.history) (events q.history) q.command) NoCondition
 
 -- the condition is prepared already: the same oracle, question and number of slots
 abbrev pub prepares_again : List Facts → Command → Bool
@@ -69,20 +85,27 @@ prepares_again prepared command = false
 abbrev pub already_prepared : Question → Option Refusal
 already_prepared q = where_ (prepares_again (conditions q.history) q.command) AlreadyPrepared
 
--- no condition is left to prepare
-abbrev pub is_above_table : ℕ → List Facts → Command → Bool
-is_above_table most prepared (Prepare oracle question slots) = nat_le most (length prepared)
-is_above_table most prepared command = false
+-- no condition is left to prepare, no event to make, or fewer conditions than an event has questions
+abbrev pub is_above_table : Bounds → List Facts → List EventView → Command → Bool
+is_above_table most prepared made (Prepare oracle question slots) = nat_le most.conditions (length prepared)
+is_above_table most prepared made (Event oracle questions fee) = nat_le most.events (length made) || nat_lt most.conditions (length prepared + questions)
+is_above_table most prepared made command = false
 
 abbrev pub table_full : Question → Option Refusal
-table_full q = where_ (is_above_table q.limits.conditions (conditions q.history) q.command) TableFull
+table_full q = where_ (is_above_table q.limits (conditions q.history) (events q.history) q.command) TableFull
 
--- a set that the command names isn't proper for its condition
-abbrev pub names_bad_set : List Facts → Command → Bool
-names_bad_set prepared command = key_is_improper prepared (key_of command) || sets_are_improper prepared (sets_of command)
+-- a set has a question past an event's last
+abbrev pub is_outside : Option EventView → ℕ → Bool
+is_outside None set = false
+is_outside (Some event) set = nat_le (2 ^ length event.conditions) set
+
+-- a set that the command names isn't proper for its condition, or chooses no questions of its event
+abbrev pub names_bad_set : List Facts → List EventView → Command → Bool
+names_bad_set prepared made (Convert event set amount) = (set == 0) || is_outside (slice_get made event) set
+names_bad_set prepared made command = key_is_improper prepared (key_of command) || sets_are_improper prepared (sets_of command)
 
 abbrev pub bad_set : Question → Option Refusal
-bad_set q = where_ (names_bad_set (conditions q.history) q.command) BadSet
+bad_set q = where_ (names_bad_set (conditions q.history) (events q.history) q.command) BadSet
 
 -- what is split or merged are no two sets or more that are apart
 abbrev pub names_no_partition : Command → Bool
@@ -118,15 +141,21 @@ partition_refusals prepared parent condition sets =
     ∷ where_ (is_some (part parent condition)) Held
     ∷ where_ (nat_lt 3 (length parent)) TooDeep ∷ []
 
--- ---- 13 to 15
+-- ---- 13 to 17
+
+-- a question is answered
+abbrev pub is_answered : (ℕ → Option (List ℕ)) → Option ℕ → Bool
+is_answered numerators None = false
+is_answered numerators (Some condition) = is_some (numerators condition)
 
 -- the condition has its numerators already
-abbrev pub reports_again : List Payouts → Command → Bool
-reports_again reported (Report condition payouts) = is_some (numerators_on reported condition)
-reports_again reported command = false
+abbrev pub reports_again : (ℕ → Option (List ℕ)) → List EventView → Command → Bool
+reports_again numerators made (Report condition payouts) = is_some (numerators condition)
+reports_again numerators made (Answer event question won) = is_answered numerators (question_in made event question)
+reports_again numerators made command = false
 
 abbrev pub already_reported : Question → Option Refusal
-already_reported q = where_ (reports_again (reports q.history) q.command) AlreadyReported
+already_reported q = where_ (reports_again (told q.history) (events q.history) q.command) AlreadyReported
 
 -- the numerators aren't one for each slot, or their sum is 0
 abbrev pub is_no_report : Option Facts → List ℕ → Bool
@@ -141,20 +170,31 @@ abbrev pub bad_payouts : Question → Option Refusal
 bad_payouts q = where_ (reports_badly (conditions q.history) q.command) BadPayouts
 
 -- the condition has no numerators yet
-abbrev pub redeems_early : List Payouts → Command → Bool
-redeems_early reported (Redeem parent condition sets) = is_none (numerators_on reported condition)
-redeems_early reported command = false
+abbrev pub redeems_early : (ℕ → Option (List ℕ)) → Command → Bool
+redeems_early numerators (Redeem parent condition sets) = is_none (numerators condition)
+redeems_early numerators command = false
 
 abbrev pub not_reported : Question → Option Refusal
-not_reported q = where_ (redeems_early (reports q.history) q.command) NotReported
+not_reported q = where_ (redeems_early (told q.history) q.command) NotReported
 
--- ---- 16 to 27: no command that is carried out so far meets these
+-- the event that a command names isn't made
+abbrev pub names_no_event : List EventView → Command → Bool
+names_no_event made (Answer event question won) = is_none (slice_get made event)
+names_no_event made (Convert event set amount) = is_none (slice_get made event)
+names_no_event made command = false
 
 abbrev pub no_event : Question → Option Refusal
-no_event q = None
+no_event q = where_ (names_no_event (events q.history) q.command) NoEvent
+
+-- the question that was answered YES, where an answer says it of another
+abbrev pub winner_before : List EventView → Command → Option ℕ
+winner_before made (Answer event question won) = if won then winner_in made event else None
+winner_before made command = None
 
 abbrev pub determined : Question → Option Refusal
-determined q = None
+determined q = option_map Determined (winner_before (events q.history) q.command)
+
+-- ---- 18 to 27: no command that is carried out so far meets these
 
 abbrev pub no_market : Question → Option Refusal
 no_market q = None
@@ -203,9 +243,15 @@ taken_by prepared (Split parent condition sets amount) = whole_in prepared paren
 taken_by prepared (Merge parent condition sets amount) = parts_of parent condition sets
 taken_by prepared command = []
 
--- the caller holds less than that of one of them; the refusal tells the first place
+-- the first of these places of which less is held, with what is held there; a conversion takes NO of each question of its set,
+-- by the question's place in the event
+abbrev pub short_of : List Facts → List EventView → (Pairs → ℕ) → Command → Option (ℕ × ℕ)
+short_of prepared made held (Convert event set amount) = short_question held amount set (conditions_in made event)
+short_of prepared made held command = first_short held (amount_of command) (taken_by prepared command)
+
+-- the caller holds less than what is taken
 abbrev pub unfunded : Question → Option Refusal
-unfunded q = option_map (λ short. Unfunded short.1 short.0) (first_short (balance q.history q.account) (amount_of q.command) (taken_by (conditions q.history) q.command))
+unfunded q = option_map (λ short. Unfunded short.1 short.0) (short_of (conditions q.history) (events q.history) (balance q.history q.account) q.command)
 
 -- no command that is carried out so far meets these three
 abbrev pub exchange_short : Question → Option Refusal

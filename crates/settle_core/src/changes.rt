@@ -7,7 +7,7 @@ use ledger_book::Staged;
 pub struct Changes {
     /// What is posted, and the change of the vault.
     pub(crate) staged: Staged,
-    /// The numerators that are reported, where some are.
+    /// The numerators that are reported or answered, where some are.
     pub(crate) numerators: Option<Bits>,
     /// The reply to the command.
     pub(crate) reply: Reply,

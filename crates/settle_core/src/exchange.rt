@@ -11,7 +11,8 @@ ghost use Rattle.ledger_book.specs.Ledger.{amount_at, supply_at};
 ghost use Rattle.ledger_book.specs.Planning.{first_short};
 ghost use Rattle.ledger_book.specs.Postings.{debit, AreWithin, IsFunded};
 ghost use Rattle.ledger_book.specs.Staging.{oversupplied};
-ghost use Rattle.settle_core.specs.Book.{conditions, postings};
+ghost use Rattle.condition_table.specs.Conditions.{numerators_at};
+ghost use Rattle.settle_core.specs.Book.{conditions, events, postings, told};
 ghost use Rattle.settle_core.specs.Built.{is_built};
 ghost use Rattle.settle_core.specs.Exchange.{ExchangeView, asked, IsSame, AreChangesOf, IsPlanFor};
 ghost use Rattle.settle_core.specs.Legal.{IsAccepted, IsLegal, IsPlannable};
@@ -21,13 +22,14 @@ ghost use Rattle.settle_core.specs.Reply.{act_of, accepted_reply, reply_to};
 ghost use Rattle.settle_core.specs.Verdict.{verdict, first_some, AnsweredBy};
 
 use crate::changes::Changes;
-use crate::commands::enter;
+use crate::commands::{enter, reserve};
 use crate::limits::Limits;
 use crate::plan::Plan;
 use collection_keys::Collection;
 use command_words::{Act, Acts, Command, Refusal, Reply};
 use condition_sets::{AccountId, ListOf, NoMemory};
 use condition_table::Conditions;
+use event_table::Events;
 use ledger_book::laws::net_amounts_grow_by_each_posting;
 use ledger_book::{DebitFault, Ledger, LedgerFull, Staged};
 use std::alloc::Global;
@@ -35,12 +37,13 @@ use std::marker::Model;
 
 /// An exchange: the history of its acts, and what it keeps of them so that the next answer is quick.
 ///
-/// Contracts see its limits, its history, and what it has room for without memory: so many acts more, and changes for which
-/// its ledger is ready.
+/// Contracts see its limits, its history, and what it has room for without memory: so many acts more, so many questions of
+/// one event, and changes for which its ledger is ready.
 #[derive(Drop)]
 pub struct Exchange {
     pub(crate) alloc: Global,
     pub(crate) limits: Limits,
+    pub(crate) events: Events,
     pub(crate) conditions: Conditions,
     pub(crate) ledger: Ledger,
     pub(crate) history: Vec<Act>,
@@ -54,9 +57,9 @@ impl Model for Exchange {
 
     ghost use Rattle.settle_core.specs.Kept.{IsKept};
 
-    ghost view = { λ e. record { limits = e.limits; history = e.history.items; room = min (vec_capacity e.history - vec_len e.history) e.conditions.room; ledger = e.ledger } };
+    ghost view = { λ e. record { limits = e.limits; history = e.history.items; room = min (vec_capacity e.history - vec_len e.history) e.conditions.room; questions = min e.events.room e.conditions.room; ledger = e.ledger } };
 
-    ghost invariant = { λ e. IsKept e.limits e.conditions e.ledger e.history.items };
+    ghost invariant = { λ e. IsKept e.limits e.events e.conditions e.ledger e.history.items };
 }
 
 impl Exchange {
@@ -70,6 +73,7 @@ impl Exchange {
         Ok(Exchange {
             alloc,
             limits,
+            events: Events::new(alloc, limits.events())?,
             conditions: Conditions::new(alloc, limits.conditions())?,
             ledger: Ledger::new(alloc, limits.entries())?,
             history: Vec::new(alloc),
@@ -94,7 +98,7 @@ impl Exchange {
         };
         let copy = act.copy(self.alloc)?;
         self.history.reserve(1)?;
-        self.conditions.reserve(1)?;
+        reserve(&mut self.events, &mut self.conditions, command)?;
         self.ledger.reserve(&changes.staged)?;
         Ok(Plan::new(act, copy, changes))
     }
@@ -109,7 +113,12 @@ impl Exchange {
         ensures limits { self.new.limits ≡ self.old.limits }
     {
         let (act, changes) = plan.into_parts();
-        enter(&mut self.conditions, &act.command, changes.numerators);
+        enter(
+            &mut self.events,
+            &mut self.conditions,
+            &act.command,
+            changes.numerators,
+        );
         self.ledger.commit(changes.staged);
         self.history.push_reserved(act);
         changes.reply
@@ -171,11 +180,19 @@ impl Exchange {
         &self.ledger
     }
 
-    /// The conditions that the history prepared.
+    /// The conditions that the history prepared, with what it told of each.
     pub fn conditions(&self) -> &Conditions
-        ensures { result.now.facts ≡ conditions self.now.history }
+        ensures facts { result.now.facts ≡ conditions self.now.history }
+        ensures numerators { (condition : ℕ) → numerators_at result.now.numerators condition ≡ told self.now.history condition }
     {
         &self.conditions
+    }
+
+    /// The events that the history made, with what it answered YES.
+    pub fn events(&self) -> &Events
+        ensures { result.now.events ≡ events self.now.history }
+    {
+        &self.events
     }
 
     /// The history by value. It takes no memory.

@@ -12,9 +12,9 @@ ghost use Rattle.coverage_law.specs.Need.{held_worth, need};
 ghost use Rattle.coverage_law.specs.Outcomes.{Outcome, IsLawful};
 ghost use Rattle.ledger_book.specs.Entries.{AreEntries};
 ghost use Rattle.ledger_book.specs.Staging.{is_above_supply};
-ghost use Rattle.settle_core.specs.Book.{book, conditions, postings, postings_of};
+ghost use Rattle.settle_core.specs.Book.{book, postings, postings_of};
 ghost use Rattle.settle_core.specs.Bounds.{Bounds, standard};
-ghost use Rattle.settle_core.specs.Coverage.{CanPay};
+ghost use Rattle.settle_core.specs.Coverage.{CanPay, outlook};
 ghost use Rattle.settle_core.specs.Legal.{IsLegal};
 ghost use Rattle.settle_core.specs.Postings.{balance, supply, held_by_all, vault};
 ghost use Rattle.settle_core.specs.Refusals.{Question};
@@ -27,12 +27,12 @@ pub fn lowest_refusal()
     ensures none { (q : Question) (refusal : Refusal) → verdict q ≡ None → Applies q refusal → ⊥ }
 {}
 
-/// For every lawful outcome, of which there is one at the least, the vault covers what all holdings are worth, and it is
-/// exactly that where nothing was reported. What all holdings are worth is the sum of balance times worth over the
-/// positions that hold anything, each once.
+/// For every lawful outcome, of which there is one at the least, the vault covers what all holdings are worth. It is exactly
+/// that where nothing was reported and one question of each event comes out YES, or of each event in which something was
+/// converted. What all holdings are worth is the sum of balance times worth over the positions that hold anything, each once.
 pub fn holdings_are_covered()
     ensures covered { (limits : Bounds) (history : List Act) → IsLegal limits history → CanPay history }
-    ensures possible { (limits : Bounds) (history : List Act) → IsLegal limits history → (outcome : Outcome) × IsLawful (conditions history) outcome }
+    ensures possible { (limits : Bounds) (history : List Act) → IsLegal limits history → (outcome : Outcome) × IsLawful (outlook history) outcome }
     ensures held { (limits : Bounds) (history : List Act) (value : Pairs → ℕ) (positions : List (ℕ × Pairs)) → IsLegal limits history → AreEntries (balance history) positions
         → held_worth value (balance history) positions ≡ need value (postings history) }
 {}

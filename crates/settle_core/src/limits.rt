@@ -1,5 +1,5 @@
 ghost use Rattle.std.specs.Prelude.{◌≡◌, ◌↔◌, ◌+◌, ◌≤◌, IsSome, IfSome};
-ghost use Rattle.condition_sets.specs.declared.names.TheConstants.{MAX_CONDITION};
+ghost use Rattle.condition_sets.specs.declared.names.TheConstants.{MAX_CONDITION, MAX_EVENT};
 
 use command_words::MAX_HISTORY;
 use ledger_book::MAX_ENTRIES;
@@ -94,6 +94,14 @@ impl Limits {
         ensures within { result ≤ MAX_CONDITION + 1 }
     {
         self.conditions
+    }
+
+    /// The most events that may be made.
+    pub fn events(&self) -> u16
+        ensures value { result ≡ self.now.events }
+        ensures within { result ≤ MAX_EVENT + 1 }
+    {
+        self.events
     }
 
     /// The most balances that are other than 0.

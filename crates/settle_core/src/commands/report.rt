@@ -61,7 +61,7 @@ impl Exchange {
 }
 
 /// Whether numerators were reported on a condition.
-fn is_reported(conditions: &Conditions, condition: ConditionId) -> bool
+pub(crate) fn is_reported(conditions: &Conditions, condition: ConditionId) -> bool
     ensures { result ≡ is_some (numerators_at conditions.now.numerators condition) }
 {
     conditions.numerators(condition).is_some()

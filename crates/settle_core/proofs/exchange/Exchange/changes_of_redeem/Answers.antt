@@ -5,7 +5,7 @@ use Rattle.condition_sets.specs.declared.names.TheConstants.{EXCHANGE}
 use Rattle.ledger_book.specs.Ledger.{amount_at}
 use Rattle.ledger_book.specs.declared.posting.Posting.{Posting}
 use Rattle.report_redeem.proofs.Redemptions.{redeemed-many}
-use Rattle.settle_core.specs.Book.{numerators_on, reports}
+use Rattle.settle_core.specs.Book.{told}
 use Rattle.settle_core.specs.Exchange.{ExchangeView, asked}
 use Rattle.settle_core.specs.Verdict.{verdict, AnsweredBy}
 use Rattle.settle_core.specs.declared.changes.Changes.{Changes}
@@ -33,7 +33,7 @@ returns-in_default-clause-verdict c =
     let e = c.self.inside in
     let h = e.history.items in
     let allowed : (c.args.account == EXCHANGE) ≡ false = search (rules, tests) in
-    let none : numerators_on (reports h) c.args.condition ≡ None = sym (c.self.invariant.reports.each c.args.condition) ∙ c.in_default.ensures.value in
+    let none : told h c.args.condition ≡ None = sym (c.self.invariant.reports.each c.args.condition) ∙ c.in_default.ensures.value in
     let front = redeem-front e.limits h c.args.account c.args.parent.now c.as_slice.result.now c.args.condition c.args.sets.now c.as_slice-2.result.now c.args.now e.conditions.facts None allowed c.as_slice.ensures c.as_slice-2.ensures c.self.invariant.conditions c.in-Ok.ensures.verdict none in
     subst (λ (s : ExchangeView). verdict (asked s c.args.account (Redeem c.args.parent.now c.args.condition c.args.sets.now) c.args.now) ≡ Some NotReported) c.self.view_is front
 
@@ -49,7 +49,7 @@ returns-in-Some-refusal_at_last-clause-verdict c =
     let e = c.self.inside in
     let h = e.history.items in
     let allowed : (c.args.account == EXCHANGE) ≡ false = search (rules, tests) in
-    let here = redeem-last e.limits e.conditions e.ledger h c.self.invariant c.args.account c.args.parent.now c.as_slice.result.now c.in-Ok.chosen.parent c.args.condition c.args.sets.now c.as_slice-2.result.now c.deref.result.now c.args.now c.in-Some.numerators.now c.plan_redeem.new.s.postings
+    let here = redeem-last e.limits e.events e.conditions e.ledger h c.self.invariant c.args.account c.args.parent.now c.as_slice.result.now c.in-Ok.chosen.parent c.args.condition c.args.sets.now c.as_slice-2.result.now c.deref.result.now c.args.now c.in-Some.numerators.now c.plan_redeem.new.s.postings
     allowed c.as_slice.ensures c.as_slice-2.ensures c.in-Ok.ensures.parent (c.deref.ensures.value ∙ c.in-Ok.ensures.sets) c.in-Ok.ensures.verdict c.in-Some.ensures.value c.in_ok-paid.ensures.postings in
     let last = subst (λ (s : ExchangeView). verdict (asked s c.args.account (Redeem c.args.parent.now c.args.condition c.args.sets.now) c.args.now) ≡ last_refusals s.limits s.history c.plan_redeem.new.s.postings) c.self.view_is here in
     answered-err Changes _ c.in-Some-refusal_at_last.refusal (last ∙ (sym c.refusal_at_last.ensures ∙ c.in-Some-refusal_at_last.is))
@@ -59,7 +59,7 @@ returns-clause-verdict c =
     let e = c.self.inside in
     let h = e.history.items in
     let allowed : (c.args.account == EXCHANGE) ≡ false = search (rules, tests) in
-    let here = redeem-last e.limits e.conditions e.ledger h c.self.invariant c.args.account c.args.parent.now c.as_slice.result.now c.in-Ok.chosen.parent c.args.condition c.args.sets.now c.as_slice-2.result.now c.deref.result.now c.args.now c.in-Some.numerators.now c.plan_redeem.new.s.postings
+    let here = redeem-last e.limits e.events e.conditions e.ledger h c.self.invariant c.args.account c.args.parent.now c.as_slice.result.now c.in-Ok.chosen.parent c.args.condition c.args.sets.now c.as_slice-2.result.now c.deref.result.now c.args.now c.in-Some.numerators.now c.plan_redeem.new.s.postings
     allowed c.as_slice.ensures c.as_slice-2.ensures c.in-Ok.ensures.parent (c.deref.ensures.value ∙ c.in-Ok.ensures.sets) c.in-Ok.ensures.verdict c.in-Some.ensures.value c.in_ok-paid.ensures.postings in
     let last = subst (λ (s : ExchangeView). verdict (asked s c.args.account (Redeem c.args.parent.now c.args.condition c.args.sets.now) c.args.now) ≡ last_refusals s.limits s.history c.plan_redeem.new.s.postings) c.self.view_is here in
     last ∙ (sym c.refusal_at_last.ensures ∙ c.in-None.is)

@@ -4,5 +4,6 @@ use Rattle.settle_core.proofs.exchange.Exchange.new.Goals as goal
 
 pub invariant_of-result : goal.invariant_of-result
 invariant_of-result c =
-    kept-empty c.args.limits c.in_ok-new.field-0 c.in_ok-new-2.field-0 c.new-3.result.items c.new-3.ensures.items (omega (arith, c.history-most.ensures.value, c.history-most.ensures.within))
-    c.in_ok-new.ensures.facts c.in_ok-new.ensures.numerators (c.in_ok-new.ensures.limit ∙ c.conditions.ensures.value) c.in_ok-new-2.ensures.empty (c.in_ok-new-2.ensures.limit ∙ c.entries.ensures.value)
+    kept-empty c.args.limits c.in_ok-new.field-0 c.in_ok-new-2.field-0 c.in_ok-new-3.field-0 c.new-4.result.items c.new-4.ensures.items (omega (arith, c.history-most.ensures.value, c.history-most.ensures.within))
+    c.in_ok-new.ensures.events (c.in_ok-new.ensures.limit ∙ c.events.ensures.value)
+    c.in_ok-new-2.ensures.facts c.in_ok-new-2.ensures.numerators (c.in_ok-new-2.ensures.limit ∙ c.conditions.ensures.value) c.in_ok-new-3.ensures.empty (c.in_ok-new-3.ensures.limit ∙ c.entries.ensures.value)
