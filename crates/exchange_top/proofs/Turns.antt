@@ -16,6 +16,7 @@ use Rattle.settle_core.specs.Reply.{Answered, is_no_memory, reply_by, history_by
 use Rattle.settle_core.specs.Built.{is_built}
 use Rattle.settle_core.specs.Refusals.{Question}
 use Rattle.settle_core.specs.Verdict.{verdict, AnsweredBy}
+use Rattle.settle_core.proofs.Posted.{accepted-rests}
 use Rattle.exchange_top.specs.Holds.{IsStep}
 use Rattle.wire_json.specs.Request.{request}
 use Rattle.exchange_top.specs.Talk.{AnsweredLine, AnsweredRequest, is_unread, refused_reply}
@@ -42,7 +43,7 @@ accepted-step limits history account (Cross market) moment built = cc
 accepted-step limits history account (Order order) moment built = cc
 accepted-step limits history account (Balance holder key) moment built = record { step = inl refl; rests = omega arith }
 accepted-step limits history account Vault moment built = record { step = inl refl; rests = omega arith }
-accepted-step limits history account command moment built = record { step = inr (_, refl); rests = omega (arith, length-append {A = Act}) }
+accepted-step limits history account command moment built = record { step = inr (_, refl); rests = omega (arith, length-append {A = Act}, accepted-rests history account command refl) }
 
 given-step : (given : Option Refusal) (q : Question) → is_built q.command ≡ true → IsSmallStep q.history (history_by given q) (reply_by given q)
 given-step None q built = accepted-step q.limits q.history q.account q.command q.moment built

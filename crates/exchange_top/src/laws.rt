@@ -7,9 +7,9 @@ ghost use Rattle.coverage_law.specs.Need.{held_worth, need};
 ghost use Rattle.coverage_law.specs.Outcomes.{Outcome, IsLawful};
 ghost use Rattle.coverage_law.specs.Worth.{worth};
 ghost use Rattle.ledger_book.specs.Entries.{AreEntries};
-ghost use Rattle.settle_core.specs.Book.{conditions, postings};
+ghost use Rattle.settle_core.specs.Book.{postings};
 ghost use Rattle.settle_core.specs.Bounds.{Bounds};
-ghost use Rattle.settle_core.specs.Coverage.{CanPay, results};
+ghost use Rattle.settle_core.specs.Coverage.{CanPay, outlook, results};
 ghost use Rattle.settle_core.specs.Legal.{IsLegal};
 ghost use Rattle.settle_core.specs.Postings.{balance};
 ghost use Rattle.exchange_top.specs.Holds.{Holds};
@@ -20,11 +20,12 @@ ghost use Rattle.exchange_top.specs.declared.serving.TheConstants.{MAX_INPUT};
 use settle_core::laws::holdings_are_covered;
 
 /// What the exchange is made for: for every history that the rules allow and every lawful outcome, of which there is one at
-/// the least, the vault covers what all holdings are worth; and it is exactly that where nothing was reported. What all
-/// holdings are worth is balance times worth over the positions that hold anything, each once.
+/// the least, the vault covers what all holdings are worth; and it is exactly that where nothing was reported and one question
+/// of each event comes out YES. What all holdings are worth is balance times worth over the positions that hold anything,
+/// each once.
 pub fn coverage_holds()
     ensures covered { (limits : Bounds) (history : List Act) → IsLegal limits history → CanPay history }
-    ensures possible { (limits : Bounds) (history : List Act) → IsLegal limits history → (outcome : Outcome) × IsLawful (conditions history) outcome }
+    ensures possible { (limits : Bounds) (history : List Act) → IsLegal limits history → (outcome : Outcome) × IsLawful (outlook history) outcome }
     ensures held { (limits : Bounds) (history : List Act) (outcome : Outcome) (positions : List (ℕ × Pairs)) → IsLegal limits history → AreEntries (balance history) positions
         → held_worth (worth (results history) outcome) (balance history) positions ≡ need (worth (results history) outcome) (postings history) }
 {
