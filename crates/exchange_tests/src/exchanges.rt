@@ -3,7 +3,7 @@
 use crate::ledgers::told;
 use collection_keys::Collection;
 use command_words::Command;
-use condition_sets::{AccountId, Bits, ConditionId, MAX_AMOUNT, Pairs};
+use condition_sets::{AccountId, Bits, ConditionId, EventId, MAX_AMOUNT, Pairs};
 use settle_core::{Exchange, Limits, ReplayFault, built};
 use std::alloc::Global;
 use std::test::Fail;
@@ -87,6 +87,62 @@ fn a_full_history(rt: HostRuntime) -> Result<(), Fail> {
     ] {
         let answer = answer(rt.alloc(), &mut exchange, 0, &deposit(2, amount))?;
         assert_eq!(rt; answer.as_str(), expected, "deposit of {amount}");
+    }
+    Ok(())
+}
+
+/// An event of so many questions, which account 3 answers, and of whose conversions half goes to the operator.
+fn event(questions: u8) -> Command {
+    Command::Event {
+        oracle: AccountId(3),
+        questions,
+        fee: 5_000,
+    }
+}
+
+/// One question of the first event comes out YES or NO.
+fn answered(question: u8, yes: bool) -> Result<Command, Fail> {
+    let event = EventId::new(0).ok_or("no event")?;
+    Ok(Command::Answer {
+        event,
+        question,
+        yes,
+    })
+}
+
+/// NO of some questions of the first event is converted.
+fn convert(set: u32, amount: u64) -> Result<Command, Fail> {
+    let event = EventId::new(0).ok_or("no event")?;
+    Ok(Command::Convert { event, set, amount })
+}
+
+#[test]
+fn two_events_and_five_acts(rt: HostRuntime) -> Result<(), Fail> {
+    let limits = Limits::small(4, 2, 1, 3, 5).ok_or("no limits")?;
+    let mut exchange = Exchange::new(rt.alloc(), limits)?;
+    for (account, command, expected) in [
+        (0, event(5), "Err(TableFull)"),
+        (
+            0,
+            event(2),
+            "Ok(EventMade { event: EventId { number: 0 }, first: ConditionId { number: 0 }, lsn: 0 })",
+        ),
+        (0, deposit(2, 10), "Ok(Done { lsn: 1 })"),
+        (2, halves(rt.alloc(), 10)?, "Ok(Done { lsn: 2 })"),
+        (2, convert(1, 4)?, "Err(EntriesLimit)"),
+        (
+            2,
+            convert(1, 10)?,
+            "Ok(Converted { lsn: 3, out: 5, paid: 0 })",
+        ),
+        (3, answered(0, false)?, "Ok(Done { lsn: 4 })"),
+        (3, answered(1, true)?, "Err(HistoryFull)"),
+        (0, event(2), "Err(HistoryFull)"),
+        (0, event(3), "Err(TableFull)"),
+        (2, convert(2, 1)?, "Err(Unfunded { have: 0, place: 1 })"),
+    ] {
+        let answer = answer(rt.alloc(), &mut exchange, account, &command)?;
+        assert_eq!(rt; answer.as_str(), expected, "{command:?}");
     }
     Ok(())
 }
