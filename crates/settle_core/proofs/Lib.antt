@@ -18,5 +18,6 @@ mod Plans
 pub mod Posted
 mod Reported
 mod Settled
+mod Trading
 mod Verdicts
 mod Zeros

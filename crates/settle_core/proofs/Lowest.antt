@@ -3,11 +3,12 @@ use Rattle.std.proofs.Common.{◌≡◌, ℕ, ◌+◌, ◌<◌, ◌≤◌, List,
 use Rattle.std.specs.Prelude.{Contains, slice_index_or, option_map}
 use Rattle.command_words.specs.Refusal.{code_of}
 use Rattle.command_words.specs.declared.refusal.Refusal.{Refusal}
-use Rattle.command_words.specs.declared.refusal.Refusal.TheVariants.{NotAllowed, NoCondition, AlreadyPrepared, TableFull, BadSet, BadPartition, Held, TooDeep, AlreadyReported, BadPayouts, NotReported, NoEvent, Determined, Unfunded, VaultLimit, SupplyLimit, EntriesLimit, HistoryFull}
+use Rattle.command_words.specs.declared.refusal.Refusal.TheVariants.{NotAllowed, NoCondition, AlreadyPrepared, TableFull, BadSet, BadPartition, Held, TooDeep, AlreadyReported, BadPayouts, NotReported, NoEvent, Determined, NoMarket, NoOrder, NotOpen, OrderExpired, NonceOld, Unfunded, VaultLimit, SupplyLimit, EntriesLimit, HistoryFull}
 use Rattle.ledger_book.specs.Staging.{oversupplied}
 use Rattle.settle_core.specs.Book.{book, conditions, events, postings_of}
+use Rattle.settle_core.specs.Orders.{nonce, orders}
 use Rattle.settle_core.specs.Postings.{balance, supply, vault}
-use Rattle.settle_core.specs.Refusals.{Question, where_, short_of, winner_before}
+use Rattle.settle_core.specs.Refusals.{Question, where_, short_of, shut_by, winner_before}
 use Rattle.settle_core.specs.Verdict.{first_some, refusals, verdict}
 use Rattle.settle_core.proofs.Verdicts.{AreNone, earlier, last}
 
@@ -33,7 +34,7 @@ numbered-each number refusal numbers (Some x) = numbers x
 -- the refusals of a question stand in the order of their numbers, from 5 on
 pub refusals-numbered : (q : Question) → AreNumbered 5 (refusals q)
 refusals-numbered q =
-    (where_-numbered _ NotAllowed, (where_-numbered _ NoCondition, (where_-numbered _ AlreadyPrepared, (where_-numbered _ TableFull, (where_-numbered _ BadSet, (where_-numbered _ BadPartition, (where_-numbered _ Held, (where_-numbered _ TooDeep, (where_-numbered _ AlreadyReported, (where_-numbered _ BadPayouts, (where_-numbered _ NotReported, (where_-numbered _ NoEvent, (numbered-each 17 Determined (λ winner. refl) (winner_before (events q.history) q.command), (tt, (tt, (tt, (tt, (tt, (tt, (tt, (tt, (tt, (tt, (numbered-each 28 (λ short. Unfunded short.1 short.0) (λ short. refl) (short_of (conditions q.history) (events q.history) (balance q.history q.account) q.command), (tt, (tt, (tt, (where_-numbered _ (VaultLimit (vault q.history)), (numbered-each 33 SupplyLimit (λ in_all. refl) (oversupplied (supply q.history) (postings_of (book q.history) q.account q.command)), (where_-numbered _ EntriesLimit, (where_-numbered _ HistoryFull, tt)))))))))))))))))))))))))))))))
+    (where_-numbered _ NotAllowed, (where_-numbered _ NoCondition, (where_-numbered _ AlreadyPrepared, (where_-numbered _ TableFull, (where_-numbered _ BadSet, (where_-numbered _ BadPartition, (where_-numbered _ Held, (where_-numbered _ TooDeep, (where_-numbered _ AlreadyReported, (where_-numbered _ BadPayouts, (where_-numbered _ NotReported, (where_-numbered _ NoEvent, (numbered-each 17 Determined (λ winner. refl) (winner_before (events q.history) q.command), (where_-numbered _ NoMarket, (where_-numbered _ (NoOrder 0), (numbered-each 20 (λ filled. NotOpen filled 0) (λ filled. refl) (shut_by (orders q.history) q.command), (where_-numbered _ (OrderExpired 0), (where_-numbered _ (NonceOld (nonce q.history q.account) 0), (tt, (tt, (tt, (tt, (tt, (numbered-each 28 (λ short. Unfunded short.1 short.0) (λ short. refl) (short_of (conditions q.history) (events q.history) (balance q.history q.account) q.command), (tt, (tt, (tt, (where_-numbered _ (VaultLimit (vault q.history)), (numbered-each 33 SupplyLimit (λ in_all. refl) (oversupplied (supply q.history) (postings_of (book q.history) q.account q.command)), (where_-numbered _ EntriesLimit, (where_-numbered _ HistoryFull, tt)))))))))))))))))))))))))))))))
 
 numbered : (number : ℕ) (o : Option Refusal) (refusal : Refusal) → IsNumbered number o → o ≡ Some refusal → code_of refusal ≡ number
 numbered number o refusal is there = let P : Option Refusal → Type 0 = λ p. IsNumbered number p in subst P there is

@@ -1,6 +1,6 @@
 -- The verdict on commands that take, move and pay out positions, refusal by refusal.
 use Rattle.std.proofs.Common.{◌≡◌, ◌==◌, ◌^◌, ℕ, cond, Bool, true, false, List, [], ◌∷◌, length, Option, None, Some, Err, refl, sym, ap, ◌∙◌, arith}
-use Rattle.std.specs.Prelude.{nat_le, nat_lt, ◌||◌, is_some, is_none, slice_get, option_and_then, option_map}
+use Rattle.std.specs.Prelude.{not, nat_le, nat_lt, ◌||◌, is_some, is_none, slice_get, option_and_then, option_map}
 use Rattle.std.specs.List.{list_any}
 use Rattle.std.proofs.lemmas.Bool.Decides.{nat_tests}
 use Rattle.std.proofs.lemmas.Option.{slice_get_within}
@@ -8,10 +8,10 @@ use Rattle.collection_keys.specs.Collections.{Pairs, part}
 use Rattle.collection_keys.specs.declared.collection.TheConstants.{MAX_PAIRS}
 use Rattle.command_words.specs.declared.act.Act.{Act}
 use Rattle.command_words.specs.declared.command.Command.{Command}
-use Rattle.command_words.specs.declared.command.Command.TheVariants.{Deposit, Withdraw, Move, Split, Merge, Report, Answer, Redeem, Convert}
+use Rattle.command_words.specs.declared.command.Command.TheVariants.{Deposit, Withdraw, Move, Split, Merge, Report, Answer, Redeem, Convert, Place}
 use Rattle.command_words.specs.declared.refusal.Refusal.{Refusal}
-use Rattle.command_words.specs.declared.refusal.Refusal.TheVariants.{NoCondition, BadSet, BadPartition, Held, TooDeep, BadPayouts, NotReported, NoEvent, Unfunded, HistoryFull, Memory}
-use Rattle.condition_sets.specs.declared.names.TheConstants.{EXCHANGE}
+use Rattle.command_words.specs.declared.refusal.Refusal.TheVariants.{NoCondition, TableFull, NoMarket, OrderExpired, NonceOld, BadSet, BadPartition, Held, TooDeep, BadPayouts, NotReported, NoEvent, Unfunded, HistoryFull, Memory}
+use Rattle.condition_sets.specs.declared.names.TheConstants.{EXCHANGE, OPERATOR}
 use Rattle.convert_positions.specs.Converting.{short_question}
 use Rattle.convert_positions.specs.Questions.{conditions_of}
 use Rattle.event_table.specs.Events.{EventView, facts_of, question_in, winner_in}
@@ -19,6 +19,9 @@ use Rattle.event_table.specs.declared.events.EventFacts.{EventFacts}
 use Rattle.ledger_book.specs.Planning.{first_short}
 use Rattle.settle_core.specs.Book.{book, conditions, events, postings_of, told}
 use Rattle.settle_core.specs.Bounds.{Bounds}
+use Rattle.order_rules.specs.declared.side.Side.{Side}
+use Rattle.order_table.specs.Orders.{open_in}
+use Rattle.settle_core.specs.Orders.{has_expired, is_market, nonce, orders}
 use Rattle.settle_core.specs.Postings.{balance}
 use Rattle.settle_core.specs.Refusals.{Question, where_, not_allowed, already_reported, bad_payouts, not_reported, no_event, determined, no_market, no_order, not_open, order_expired, nonce_old, self_match, repeated_order, wrong_pair, not_crossing, overfill, unfunded, exchange_short, too_little, still_funded, vault_limit, supply_limit, entries_limit, history_full, choice_refusals, partition_refusals, is_no_report, is_outside}
 use Rattle.settle_core.specs.Keys.{is_unprepared, is_improper, key_is_unprepared, key_is_improper, is_no_partition}
@@ -301,3 +304,19 @@ convert-outside limits history account event set amount now o allowed some at ou
     by : (o : Option EventView) → is_outside o set ≡ true → first_some (conversion_refusals (question limits history account (Convert event set amount) now) (balance history account) amount set o) ≡ Some BadSet
     by None outside = cc
     by (Some made) outside = rw outside refl
+
+-- ---- orders
+
+-- an order that may be placed by the account is refused for the first of six causes
+pub place-front : (limits : Bounds) (history : List Act) (account market set : ℕ) (side : Side) (making taking expires number fee now : ℕ) (above token open_ expired same full : Bool)
+    → let q : Question = question limits history account (Place market set side making taking expires number fee) now in
+    (account == OPERATOR) ≡ false → (account == EXCHANGE) ≡ false → nat_le limits.orders (open_in (orders history) market) ≡ above → ((set == 1) || (set == 2)) ≡ token → is_market history market ≡ open_
+    → has_expired expires now ≡ expired → (number == nonce history account) ≡ same → nat_le limits.history (length history) ≡ full
+    → verdict q ≡ first_some (where_ above TableFull ∷ where_ (not token) BadSet ∷ where_ (not open_) NoMarket ∷ where_ expired (OrderExpired 0) ∷ where_ (not same) (NonceOld (nonce history account) 0) ∷ where_ full HistoryFull ∷ [])
+unfolding verdict
+place-front limits history account market set side making taking expires number fee now true token open_ expired same full operator exchange a t o e s f = rw (operator, exchange, a) refl
+place-front limits history account market set side making taking expires number fee now false false open_ expired same full operator exchange a t o e s f = rw (operator, exchange, a, t) refl
+place-front limits history account market set side making taking expires number fee now false true false expired same full operator exchange a t o e s f = rw (operator, exchange, a, t, o) refl
+place-front limits history account market set side making taking expires number fee now false true true true same full operator exchange a t o e s f = rw (operator, exchange, a, t, o, e) refl
+place-front limits history account market set side making taking expires number fee now false true true false false full operator exchange a t o e s f = rw (operator, exchange, a, t, o, e, s) refl
+place-front limits history account market set side making taking expires number fee now false true true false true full operator exchange a t o e s f = rw (operator, exchange, a, t, o, e, s, f) refl

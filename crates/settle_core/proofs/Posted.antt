@@ -24,9 +24,11 @@ use Rattle.ledger_book.specs.declared.posting.Posting.{Posting}
 use Rattle.report_redeem.proofs.Redemptions.{redeemed-many, sums-many}
 use Rattle.split_merge.specs.Splitting.{parts_of, split_postings, merge_postings}
 use Rattle.settle_core.specs.Book.{Book, book, converted_in, events, held_in, postings_of, redeemed_in, sums_in, told, told_on}
+use Rattle.order_table.specs.Orders.{OrderView}
 use Rattle.settle_core.specs.Kept.{most_posted}
+use Rattle.settle_core.specs.Orders.{orders}
 use Rattle.settle_core.specs.Keys.{whole_in}
-use Rattle.settle_core.specs.Reply.{accepted_reply, converted_reply}
+use Rattle.settle_core.specs.Reply.{accepted_reply, converted_reply, ordered_reply}
 
 sets-few : (sets : List ℕ) → is_sets sets ≡ true → length sets ≤ MAX_SETS
 sets-few sets is =
@@ -142,6 +144,11 @@ converted-sound lsn set amount (Some event) within = within
 pub reply-sound : (history : List Act) (a : ℕ) (command : Command) → in_ranges command ≡ true → length history ≤ MAX_HISTORY → IsSound (accepted_reply history a command)
 reply-sound history a (Redeem parent condition sets) ranges within = (within, sums-few (book history) a parent condition sets (told history condition) (sets-redeemed parent condition sets ranges))
 reply-sound history a (Convert event set amount) ranges within = converted-sound (length history) set amount (slice_get (events history) event) within
+reply-sound history a (Order order) ranges within = by (slice_get (orders history) order)
+  where
+    by : (o : Option OrderView) → IsSound (ordered_reply (length history) o)
+    by None = within
+    by (Some o) = within
 reply-sound history a command ranges within = within
 
 -- the reply to an accepted command that makes an act rests on that act

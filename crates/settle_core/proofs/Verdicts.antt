@@ -1,6 +1,7 @@
 -- What follows from a verdict.
 use Rattle.std.proofs.Common.{◌≡◌, ℕ, ◌+◌, ◌<◌, ◌≤◌, List, [], ◌∷◌, ◌++◌, length, Option, Some, None, refl, arith, Bool, true, false}
-use Rattle.std.specs.Prelude.{nat_le, nat_lt, ◌&&◌, not, option_map, Err}
+use Rattle.std.specs.Prelude.{◌==◌, nat_le, nat_lt, ◌&&◌, ◌||◌, not, option_map, Err}
+use Rattle.std.proofs.lemmas.Bool.{or_parts}
 use Rattle.std.proofs.lemmas.Bool.Decides.{nat_tests}
 use Rattle.collection_keys.specs.Collections.{Pairs}
 use Rattle.collection_keys.specs.declared.collection.TheConstants.{MAX_PAIRS}
@@ -11,14 +12,14 @@ use Rattle.command_words.specs.Ranges.{is_short}
 use Rattle.command_words.specs.declared.command.Command.{Command}
 use Rattle.command_words.specs.declared.command.Command.TheVariants.{Deposit, Split, Merge, Move, Redeem, Place}
 use Rattle.command_words.specs.declared.refusal.Refusal.{Refusal}
-use Rattle.command_words.specs.declared.refusal.Refusal.TheVariants.{NotAllowed, NoCondition, AlreadyPrepared, TableFull, BadSet, BadPartition, Held, TooDeep, AlreadyReported, BadPayouts, NotReported, NoEvent, Determined, Unfunded, VaultLimit, SupplyLimit, EntriesLimit, HistoryFull, Memory}
+use Rattle.command_words.specs.declared.refusal.Refusal.TheVariants.{NotAllowed, NoCondition, AlreadyPrepared, TableFull, BadSet, BadPartition, Held, TooDeep, AlreadyReported, BadPayouts, NotReported, NoEvent, Determined, NoMarket, NoOrder, NotOpen, Unfunded, VaultLimit, SupplyLimit, EntriesLimit, HistoryFull, Memory}
 use Rattle.ledger_book.specs.Staging.{oversupplied}
 use Rattle.settle_core.specs.Book.{book, conditions, events, postings, postings_of, told}
-use Rattle.settle_core.specs.Built.{is_built}
 use Rattle.settle_core.specs.Keys.{key_of, sets_of, is_held, most_pairs}
 use Rattle.settle_core.specs.Legal.{IsPlannable}
+use Rattle.settle_core.specs.Orders.{is_market, orders}
 use Rattle.settle_core.specs.Postings.{balance, supply, vault, deposit_of}
-use Rattle.settle_core.specs.Refusals.{Question, where_, may_ask, not_allowed, names_none, no_condition, prepares_again, already_prepared, is_above_table, table_full, names_bad_set, bad_set, names_no_partition, bad_partition, already_held, too_deep, reports_again, already_reported, reports_badly, bad_payouts, redeems_early, not_reported, names_no_event, no_event, winner_before, determined, no_market, no_order, not_open, order_expired, nonce_old, self_match, repeated_order, wrong_pair, not_crossing, overfill, exchange_short, too_little, still_funded, short_of, unfunded, is_above_vault, vault_limit, supply_limit, is_above_entries, entries_limit, history_full}
+use Rattle.settle_core.specs.Refusals.{Question, where_, may_ask, may_end, not_allowed, names_none, no_condition, prepares_again, opens_again, already_prepared, is_above_table, is_above_orders, table_full, names_bad_set, bad_set, names_no_partition, bad_partition, already_held, too_deep, reports_again, already_reported, reports_badly, bad_payouts, redeems_early, not_reported, names_no_event, no_event, winner_before, determined, names_no_market, no_market, names_no_order, no_order, shut_by, not_open, order_expired, nonce_old, self_match, repeated_order, wrong_pair, not_crossing, overfill, exchange_short, too_little, still_funded, short_of, unfunded, is_above_vault, vault_limit, supply_limit, is_above_entries, entries_limit, history_full}
 use Rattle.settle_core.specs.Verdict.{verdict, first_some, AnsweredBy}
 
 -- a call that refuses by the verdict is answered by it
@@ -98,20 +99,47 @@ accepted-vault q all funded =
     let limit : vault_limit q ≡ None = assumption (all) in
     deposit-within (vault q.history) q.command funded (where_-none _ (VaultLimit (vault q.history)) limit)
 
--- an accepted command prepares no condition again, and finds room in the table
-pub accepted-new : (q : Question) → AreNone (earlier q) → prepares_again (conditions q.history) q.command ≡ false
-accepted-new q all =
-    let new : already_prepared q ≡ None = assumption (all) in
-    where_-none _ AlreadyPrepared new
-
-pub accepted-table : (q : Question) → AreNone (earlier q) → is_above_table q.limits (conditions q.history) (events q.history) q.command ≡ false
-accepted-table q all =
-    let room : table_full q ≡ None = assumption (all) in
-    where_-none _ TableFull room
-
 pub map-none : {X Y : Type 0} (f : X → Y) (o : Option X) → option_map f o ≡ None → o ≡ None
 map-none f None none = refl
 map-none f (Some x) none = cc
+
+-- an accepted command prepares no condition again, and opens no market again
+pub accepted-new : (q : Question) → AreNone (earlier q) → prepares_again (conditions q.history) q.command ≡ false
+accepted-new q all =
+    let new : already_prepared q ≡ None = assumption (all) in
+    (or_parts (prepares_again (conditions q.history) q.command) (opens_again (is_market q.history) q.command) (where_-none _ AlreadyPrepared new)).0
+
+pub accepted-market : (q : Question) → AreNone (earlier q) → opens_again (is_market q.history) q.command ≡ false
+accepted-market q all =
+    let new : already_prepared q ≡ None = assumption (all) in
+    (or_parts (prepares_again (conditions q.history) q.command) (opens_again (is_market q.history) q.command) (where_-none _ AlreadyPrepared new)).1
+
+-- it finds room in the tables
+pub accepted-table : (q : Question) → AreNone (earlier q) → is_above_table q.limits (conditions q.history) (events q.history) q.command ≡ false
+accepted-table q all =
+    let room : table_full q ≡ None = assumption (all) in
+    (or_parts (is_above_table q.limits (conditions q.history) (events q.history) q.command) (is_above_orders q.limits.orders (orders q.history) q.command) (where_-none _ TableFull room)).0
+
+pub accepted-orders : (q : Question) → AreNone (earlier q) → is_above_orders q.limits.orders (orders q.history) q.command ≡ false
+accepted-orders q all =
+    let room : table_full q ≡ None = assumption (all) in
+    (or_parts (is_above_table q.limits (conditions q.history) (events q.history) q.command) (is_above_orders q.limits.orders (orders q.history) q.command) (where_-none _ TableFull room)).1
+
+-- the market of an order is one, and the order that a command ends is open
+pub accepted-open_market : (q : Question) → AreNone (earlier q) → names_no_market (is_market q.history) q.command ≡ false
+accepted-open_market q all =
+    let is : no_market q ≡ None = assumption (all) in
+    where_-none _ NoMarket is
+
+pub accepted-order : (q : Question) → AreNone (earlier q) → names_no_order (orders q.history) q.command ≡ false
+accepted-order q all =
+    let is : no_order q ≡ None = assumption (all) in
+    where_-none _ (NoOrder 0) is
+
+pub accepted-open : (q : Question) → AreNone (earlier q) → shut_by (orders q.history) q.command ≡ None
+accepted-open q all =
+    let is : not_open q ≡ None = assumption (all) in
+    map-none (λ filled. NotOpen filled 0) (shut_by (orders q.history) q.command) is
 
 -- an accepted command leaves every supply within its limit
 pub accepted-supply : (q : Question) → verdict q ≡ None → oversupplied (supply q.history) (postings_of (book q.history) q.account q.command) ≡ None
@@ -130,7 +158,11 @@ accepted-funds q all =
 pub accepted-asked : (q : Question) → AreNone (earlier q) → not (may_ask (conditions q.history) (events q.history) q.account q.command) ≡ false
 accepted-asked q all =
     let is : not_allowed q ≡ None = assumption (all) in
-    where_-none _ NotAllowed is
+    both-may (may_ask (conditions q.history) (events q.history) q.account q.command) (may_end (orders q.history) q.account q.command) (where_-none _ NotAllowed is)
+  where
+    both-may : (a b : Bool) → not (a && b) ≡ false → not a ≡ false
+    both-may true b e = refl
+    both-may false b e = e
 
 -- the event that it names is made, and no other question of it was answered YES where it answers so
 pub accepted-event : (q : Question) → AreNone (earlier q) → names_no_event (events q.history) q.command ≡ false
@@ -204,12 +236,16 @@ short-key key few = grind (arith, nat_tests, few)
 
 -- an accepted command may be an act's
 pub accepted-may : (q : Question) → verdict q ≡ None → IsPlannable q.command → may_be_act q.command ≡ true
-accepted-may q none plannable = act-of-parts q.command plannable.makes_act plannable.in_ranges (formed q.command (accepted-depth q (earlier-none q none)) plannable.is_built)
+accepted-may q none plannable = act-of-parts q.command plannable.makes_act plannable.in_ranges (formed q.command (accepted-depth q (earlier-none q none)) (accepted-proper q (earlier-none q none)))
   where
-    formed : (command : Command) → nat_lt (most_pairs (sets_of command)) (length (key_of command)) ≡ false → is_built command ≡ true → is_act_form command ≡ true
-    formed (Split parent condition sets amount) few built = short-parent parent few
-    formed (Merge parent condition sets amount) few built = short-parent parent few
-    formed (Move to key amount) few built = short-key key few
-    formed (Redeem parent condition sets) few built = short-parent parent few
-    formed (Place market set side making taking expires nonce fee) few built = cc
-    formed command few built = refl
+    token : (b : Bool) → not b ≡ false → b ≡ true
+    token true e = refl
+    token false e = cc
+
+    formed : (command : Command) → nat_lt (most_pairs (sets_of command)) (length (key_of command)) ≡ false → names_bad_set (conditions q.history) (events q.history) command ≡ false → is_act_form command ≡ true
+    formed (Split parent condition sets amount) few proper = short-parent parent few
+    formed (Merge parent condition sets amount) few proper = short-parent parent few
+    formed (Move to key amount) few proper = short-key key few
+    formed (Redeem parent condition sets) few proper = short-parent parent few
+    formed (Place market set side making taking expires nonce fee) few proper = token ((set == 1) || (set == 2)) proper
+    formed command few proper = refl

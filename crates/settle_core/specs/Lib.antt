@@ -7,6 +7,7 @@ pub mod Kept
 pub mod Keys
 pub mod Legal
 pub mod Limits
+pub mod Orders
 pub mod Plan
 pub mod Postings
 pub mod Refusals

@@ -5,16 +5,18 @@ use Rattle.condition_sets.specs.declared.amount.TheConstants.{MAX_AMOUNT}
 use Rattle.condition_sets.specs.declared.names.TheConstants.{OPERATOR, EXCHANGE}
 use Rattle.command_words.specs.Command.{makes_act}
 use Rattle.command_words.specs.declared.command.Command.{Command}
-use Rattle.command_words.specs.declared.command.Command.TheVariants.{Deposit, Withdraw, Move, Prepare, Event, Split, Merge, Report, Answer, Redeem, Convert}
+use Rattle.command_words.specs.declared.command.Command.TheVariants.{Deposit, Withdraw, Move, Prepare, Event, Split, Merge, Report, Answer, Redeem, Convert, Market, Place, Cancel, Order}
 use Rattle.command_words.specs.declared.act.Act.{Act}
 use Rattle.command_words.specs.declared.refusal.Refusal.{Refusal}
-use Rattle.command_words.specs.declared.refusal.Refusal.TheVariants.{NotAllowed, NoCondition, AlreadyPrepared, TableFull, BadSet, BadPartition, Held, TooDeep, AlreadyReported, BadPayouts, NotReported, NoEvent, Determined, Unfunded, VaultLimit, SupplyLimit, EntriesLimit, HistoryFull}
+use Rattle.command_words.specs.declared.refusal.Refusal.TheVariants.{NotAllowed, NoCondition, AlreadyPrepared, TableFull, BadSet, BadPartition, Held, TooDeep, AlreadyReported, BadPayouts, NotReported, NoEvent, Determined, NoMarket, NoOrder, NotOpen, OrderExpired, NonceOld, Unfunded, VaultLimit, SupplyLimit, EntriesLimit, HistoryFull}
 use Rattle.condition_table.specs.declared.facts.Facts.{Facts}
 use Rattle.convert_positions.specs.Converting.{short_question}
 use Rattle.convert_positions.specs.Questions.{conditions_in}
 use Rattle.event_table.specs.Events.{EventView, question_in, winner_in}
 use Rattle.settle_core.specs.Book.{book, conditions, events, postings, postings_of, told}
+use Rattle.order_table.specs.Orders.{OrderView, is_open, open_in}
 use Rattle.settle_core.specs.Bounds.{Bounds}
+use Rattle.settle_core.specs.Orders.{has_expired, is_market, nonce, orders}
 use Rattle.condition_table.specs.Conditions.{place_of}
 use Rattle.settle_core.specs.Keys.{is_unprepared, is_improper, key_of, sets_of, key_is_unprepared, sets_are_unprepared, key_is_improper, sets_are_improper, is_no_partition, is_held, most_pairs, whole_in}
 use Rattle.settle_core.specs.Postings.{balance, supply, vault}
@@ -58,10 +60,21 @@ may_ask prepared made account (Prepare oracle question slots) = not (account == 
 may_ask prepared made account (Event oracle questions fee) = (account == OPERATOR) && not (oracle == EXCHANGE)
 may_ask prepared made account (Report condition payouts) = not (account == EXCHANGE) && may_report (slice_get prepared condition) account
 may_ask prepared made account (Answer event question won) = not (account == EXCHANGE) && may_answer (slice_get made event) account
+may_ask prepared made account (Market condition) = account == OPERATOR
+may_ask prepared made account (Place market set side making taking expires nonce fee) = not (account == OPERATOR) && not (account == EXCHANGE)
 may_ask prepared made account command = not (account == EXCHANGE)
 
+-- an order's maker alone may cancel it, where it was placed
+abbrev pub is_maker : Option OrderView → ℕ → Bool
+is_maker None account = true
+is_maker (Some order) account = order.placed.account == account
+
+abbrev pub may_end : List OrderView → ℕ → Command → Bool
+may_end placed account (Cancel order) = is_maker (slice_get placed order) account
+may_end placed account command = true
+
 abbrev pub not_allowed : Question → Option Refusal
-not_allowed q = where_ (not (may_ask (conditions q.history) (events q.history) q.account q.command)) NotAllowed
+not_allowed q = where_ (not (may_ask (conditions q.history) (events q.history) q.account q.command && may_end (orders q.history) q.account q.command)) NotAllowed
 
 -- an event has no question of a place
 abbrev pub is_past_questions : Option EventView → ℕ → Bool
@@ -72,6 +85,7 @@ is_past_questions (Some event) question = nat_le (length event.conditions) quest
 abbrev pub names_none : List Facts → List EventView → Command → Bool
 names_none prepared made (Report condition payouts) = is_unprepared prepared condition
 names_none prepared made (Answer event question won) = is_past_questions (slice_get made event) question
+names_none prepared made (Market condition) = is_unprepared prepared condition
 names_none prepared made command = key_is_unprepared prepared (key_of command) || sets_are_unprepared prepared (sets_of command)
 
 abbrev pub no_condition : Question → Option Refusal
@@ -82,8 +96,13 @@ abbrev pub prepares_again : List Facts → Command → Bool
 prepares_again prepared (Prepare oracle question slots) = is_some (place_of (record { oracle = oracle; question = question; slots = slots }) prepared)
 prepares_again prepared command = false
 
+-- the condition is a market already
+abbrev pub opens_again : (ℕ → Bool) → Command → Bool
+opens_again is_open (Market condition) = is_open condition
+opens_again is_open command = false
+
 abbrev pub already_prepared : Question → Option Refusal
-already_prepared q = where_ (prepares_again (conditions q.history) q.command) AlreadyPrepared
+already_prepared q = where_ (prepares_again (conditions q.history) q.command || opens_again (is_market q.history) q.command) AlreadyPrepared
 
 -- no condition is left to prepare, no event to make, or fewer conditions than an event has questions
 abbrev pub is_above_table : Bounds → List Facts → List EventView → Command → Bool
@@ -91,17 +110,29 @@ is_above_table most prepared made (Prepare oracle question slots) = nat_le most.
 is_above_table most prepared made (Event oracle questions fee) = nat_le most.events (length made) || nat_lt most.conditions (length prepared + questions)
 is_above_table most prepared made command = false
 
+-- as many orders of the market are open as may be
+abbrev pub is_above_orders : ℕ → List OrderView → Command → Bool
+is_above_orders most placed (Place market set side making taking expires nonce fee) = nat_le most (open_in placed market)
+is_above_orders most placed command = false
+
 abbrev pub table_full : Question → Option Refusal
-table_full q = where_ (is_above_table q.limits (conditions q.history) (events q.history) q.command) TableFull
+table_full q = where_ (is_above_table q.limits (conditions q.history) (events q.history) q.command || is_above_orders q.limits.orders (orders q.history) q.command) TableFull
 
 -- a set has a question past an event's last
 abbrev pub is_outside : Option EventView → ℕ → Bool
 is_outside None set = false
 is_outside (Some event) set = nat_le (2 ^ length event.conditions) set
 
--- a set that the command names isn't proper for its condition, or chooses no questions of its event
+-- a condition has another number of slots than two
+abbrev pub isnt_two : Option Facts → Bool
+isnt_two None = false
+isnt_two (Some facts) = not (facts.slots == 2)
+
+-- a set that the command names isn't proper for its condition, or chooses no questions of its event, or no token of a market
 abbrev pub names_bad_set : List Facts → List EventView → Command → Bool
 names_bad_set prepared made (Convert event set amount) = (set == 0) || is_outside (slice_get made event) set
+names_bad_set prepared made (Market condition) = isnt_two (slice_get prepared condition)
+names_bad_set prepared made (Place market set side making taking expires nonce fee) = not ((set == 1) || (set == 2))
 names_bad_set prepared made command = key_is_improper prepared (key_of command) || sets_are_improper prepared (sets_of command)
 
 abbrev pub bad_set : Question → Option Refusal
@@ -194,22 +225,54 @@ winner_before made command = None
 abbrev pub determined : Question → Option Refusal
 determined q = option_map Determined (winner_before (events q.history) q.command)
 
--- ---- 18 to 27: no command that is carried out so far meets these
+-- ---- 18 to 22
+
+-- an order is placed where there is no market
+abbrev pub names_no_market : (ℕ → Bool) → Command → Bool
+names_no_market is_open (Place market set side making taking expires nonce fee) = not (is_open market)
+names_no_market is_open command = false
 
 abbrev pub no_market : Question → Option Refusal
-no_market q = None
+no_market q = where_ (names_no_market (is_market q.history) q.command) NoMarket
+
+-- an order that a command names was never placed
+abbrev pub names_no_order : List OrderView → Command → Bool
+names_no_order placed (Cancel order) = is_none (slice_get placed order)
+names_no_order placed (Order order) = is_none (slice_get placed order)
+names_no_order placed command = false
 
 abbrev pub no_order : Question → Option Refusal
-no_order q = None
+no_order q = where_ (names_no_order (orders q.history) q.command) (NoOrder 0)
+
+-- an order that is ended or filled, with what was filled of it
+abbrev pub shut : Option OrderView → Option ℕ
+shut None = None
+shut (Some order) = if is_open order then None else Some order.filled
+
+abbrev pub shut_by : List OrderView → Command → Option ℕ
+shut_by placed (Cancel order) = shut (slice_get placed order)
+shut_by placed command = None
 
 abbrev pub not_open : Question → Option Refusal
-not_open q = None
+not_open q = option_map (λ filled. NotOpen filled 0) (shut_by (orders q.history) q.command)
+
+-- a new order has expired
+abbrev pub expires_before : ℕ → Command → Bool
+expires_before now (Place market set side making taking expires nonce fee) = has_expired expires now
+expires_before now command = false
 
 abbrev pub order_expired : Question → Option Refusal
-order_expired q = None
+order_expired q = where_ (expires_before q.moment q.command) (OrderExpired 0)
+
+-- its nonce isn't its maker's present one
+abbrev pub has_other_nonce : ℕ → Command → Bool
+has_other_nonce present (Place market set side making taking expires nonce fee) = not (nonce == present)
+has_other_nonce present command = false
 
 abbrev pub nonce_old : Question → Option Refusal
-nonce_old q = None
+nonce_old q = where_ (has_other_nonce (nonce q.history q.account) q.command) (NonceOld (nonce q.history q.account) 0)
+
+-- ---- 23 to 27: no command that is carried out so far meets these
 
 abbrev pub self_match : Question → Option Refusal
 self_match q = None

@@ -1,16 +1,18 @@
 -- The replies, and what the history is after them.
-use Rattle.std.specs.Prelude.{◌≡◌, ℕ, Bool, true, false, MatchBool, if◌then◌else◌, List, [], ◌∷◌, ◌++◌, length, slice_get, Option, Some, None}
+use Rattle.std.specs.Prelude.{◌≡◌, ℕ, ◌+◌, Bool, true, false, MatchBool, if◌then◌else◌, List, [], ◌∷◌, ◌++◌, length, slice_get, Option, Some, None}
 use Rattle.command_words.specs.declared.command.Command.{Command}
-use Rattle.command_words.specs.declared.command.Command.TheVariants.{Prepare, Event, Redeem, Convert, Balance, Vault}
+use Rattle.command_words.specs.declared.command.Command.TheVariants.{Prepare, Event, Redeem, Convert, Place, Bump, Balance, Order, Vault}
 use Rattle.command_words.specs.declared.act.Act.{Act}
 use Rattle.command_words.specs.declared.refusal.Refusal.{Refusal}
 use Rattle.command_words.specs.declared.refusal.Refusal.TheVariants.{Memory}
 use Rattle.command_words.specs.declared.reply.Reply.{Reply}
-use Rattle.command_words.specs.declared.reply.Reply.TheVariants.{Done, Prepared, EventMade, Redeemed, Converted, Balanced, Vaulted, Refused}
+use Rattle.command_words.specs.declared.reply.Reply.TheVariants.{Done, Prepared, EventMade, Redeemed, Converted, Placed, Bumped, Balanced, Ordered, Vaulted, Refused}
 use Rattle.command_words.specs.Command.{makes_act}
 use Rattle.convert_positions.specs.Converting.{cash_of, out_of}
 use Rattle.event_table.specs.Events.{EventView}
 use Rattle.settle_core.specs.Book.{book, conditions, events, sums_in, told}
+use Rattle.order_table.specs.Orders.{OrderView, is_open}
+use Rattle.settle_core.specs.Orders.{nonce, orders}
 use Rattle.settle_core.specs.Postings.{vault, balance}
 use Rattle.settle_core.specs.Refusals.{Question}
 use Rattle.settle_core.specs.Verdict.{verdict}
@@ -20,12 +22,20 @@ abbrev pub converted_reply : ℕ → Option EventView → ℕ → ℕ → Reply
 converted_reply lsn None set amount = Done lsn
 converted_reply lsn (Some event) set amount = Converted lsn (out_of amount event.bips) (cash_of (out_of amount event.bips) set event.conditions)
 
+-- the reply to a question for an order: what was filled of it, and whether it is open
+abbrev pub ordered_reply : ℕ → Option OrderView → Reply
+ordered_reply rests None = Ordered 0 false rests
+ordered_reply rests (Some order) = Ordered order.filled (is_open order) rests
+
 -- the reply to an accepted command of an account, over the acts before it
 abbrev pub accepted_reply : List Act → ℕ → Command → Reply
 accepted_reply history a (Prepare oracle question slots) = Prepared (length (conditions history)) (length history)
 accepted_reply history a (Event oracle questions fee) = EventMade (length (events history)) (length (conditions history)) (length history)
 accepted_reply history a (Redeem parent condition sets) = Redeemed (length history) (sums_in (book history) a parent condition sets (told history condition))
 accepted_reply history a (Convert event set amount) = converted_reply (length history) (slice_get (events history) event) set amount
+accepted_reply history a (Place market set side making taking expires nonce fee) = Placed (length history) (length (orders history))
+accepted_reply history a Bump = Bumped (length history) (nonce history a + 1)
+accepted_reply history a (Order order) = ordered_reply (length history) (slice_get (orders history) order)
 accepted_reply history a (Balance holder key) = Balanced (balance history holder key) (length history)
 accepted_reply history a Vault = Vaulted (length history) (vault history)
 accepted_reply history a command = Done (length history)

@@ -3,11 +3,16 @@
 
 mod answer;
 mod balance;
+mod bump;
+mod cancel;
 mod convert;
 mod deposit;
 mod event;
+mod market;
 mod merge;
 mod move_;
+mod order;
+mod place;
 mod prepare;
 mod redeem;
 mod report;
@@ -15,12 +20,17 @@ mod split;
 mod vault;
 mod withdraw;
 
-ghost use Rattle.std.specs.Prelude.{◌≡◌, IfOk, OnOk, ◌<◌, ◌≤◌, ◌++◌, length, min, false, true};
+ghost use Rattle.std.specs.Prelude.{◌≡◌, ◌==◌, ◌&&◌, ◌||◌, ◌+◌, ℕ, if◌then◌else◌, IfOk, IfErr, OnOk, ◌<◌, ◌≤◌, ◌++◌, [], None, pos, length, min, false, true};
+ghost use Rattle.std.specs.List.{list_any};
 ghost use Rattle.command_words.specs.Command.{in_ranges};
+ghost use Rattle.command_words.specs.declared.refusal.Refusal.TheVariants.{Memory};
+ghost use Rattle.command_words.specs.declared.reply.Reply.TheVariants.{Done};
+ghost use Rattle.order_table.specs.Orders.{is_market, nonce_of};
 ghost use Rattle.settle_core.specs.Book.{events_after, posts, prepared_by};
 ghost use Rattle.settle_core.specs.Exchange.{asked, numerators_of, AreChangesOf};
-ghost use Rattle.settle_core.specs.Kept.{MayEnter, numerators_after, questions_made};
+ghost use Rattle.settle_core.specs.Kept.{MayEnter, MayTrade, numerators_after, orders_after, questions_made};
 ghost use Rattle.settle_core.specs.Legal.{IsPlannable};
+ghost use Rattle.settle_core.specs.Orders.{is_bump, opened_by, trades};
 ghost use Rattle.settle_core.specs.Verdict.{verdict, AnsweredBy};
 
 use crate::changes::Changes;
@@ -29,6 +39,8 @@ use command_words::{Command, Refusal};
 use condition_sets::{AccountId, Bits, NoMemory};
 use condition_table::Conditions;
 use event_table::Events;
+use ledger_book::Staged;
+use order_table::Orders;
 
 impl Exchange {
     /// The changes that a command makes, or its refusal, the one with the lowest number first.
@@ -105,8 +117,38 @@ impl Exchange {
                 question,
                 yes,
             } => self.changes_of_answer(account, *event, *question, *yes, now),
+            _ => self.changes_of_orders(account, command, now),
+        }
+    }
+
+    /// The same of a command that changes the table of orders alone.
+    fn changes_of_orders(
+        &self,
+        account: AccountId,
+        command: &Command,
+        now: u64,
+    ) -> Result<Changes, Refusal>
+        requires plannable { IsPlannable command.now }
+        requires trades { trades command.now ≡ true }
+
+        ensures verdict { AnsweredBy (verdict (asked self.now account command.now now)) result }
+        ensures changes { IfOk result (λ changes. AreChangesOf self.now.history account command.now changes) }
+    {
+        match command {
+            Command::Market { condition } => self.changes_of_market(account, *condition, now),
+            Command::Place { .. } => self.changes_of_place(account, command, now),
+            Command::Cancel { order } => self.changes_of_cancel(account, *order, now),
+            Command::Bump => self.changes_of_bump(account, now),
             _ => unreachable!(),
         }
+    }
+
+    /// The changes of a command that posts nothing, reports nothing, and is answered by the number of its act.
+    pub(crate) fn nothing(&self) -> Result<Changes, Refusal>
+        ensures ok { IfOk result (λ changes. changes ≡ record { staged = record { postings = []; vault = pos 0 }; numerators = None; reply = Done (length self.now.history) }) }
+        ensures err { IfErr result (λ refusal. refusal ≡ Memory) }
+    {
+        Ok(self.done(Staged::new(self.alloc)?))
     }
 }
 
@@ -174,6 +216,31 @@ pub(crate) fn enter(
             Some(numerators) => events.answer(conditions, *event, *question, numerators),
             None => unreachable!(),
         },
+        _ => {}
+    }
+}
+
+/// Enters an accepted command into the table of orders: the market that it opens, the order that it places or ends, or the
+/// nonce that it raises. It takes no memory.
+pub(crate) fn trade(orders: &mut Orders, account: AccountId, command: &Command)
+    requires ranges { in_ranges command.now ≡ true }
+    requires may { MayTrade orders.old account command.now }
+
+    ensures orders { orders.new.orders ≡ orders_after account orders.old.orders command.now }
+    ensures markets { (c : ℕ) → is_market orders.new c ≡ (is_market orders.old c || list_any (λ market. market == c) (opened_by command.now)) }
+    ensures nonces { (a : ℕ) → nonce_of orders.new a ≡ nonce_of orders.old a + (if (account == a) && is_bump command.now then 1 else 0) }
+    ensures limit { orders.new.limit ≡ orders.old.limit }
+{
+    match command {
+        Command::Market { condition } => orders.open_market(*condition),
+        Command::Place { .. } => match place::placed_of(account, command) {
+            Some(order) => {
+                let _order = orders.place(order);
+            }
+            None => unreachable!(),
+        },
+        Command::Cancel { order } => orders.end(*order),
+        Command::Bump => orders.bump(account),
         _ => {}
     }
 }

@@ -22,7 +22,7 @@ ghost use Rattle.settle_core.specs.Reply.{act_of, accepted_reply, reply_to};
 ghost use Rattle.settle_core.specs.Verdict.{verdict, first_some, AnsweredBy};
 
 use crate::changes::Changes;
-use crate::commands::{enter, reserve};
+use crate::commands::{enter, reserve, trade};
 use crate::limits::Limits;
 use crate::plan::Plan;
 use collection_keys::Collection;
@@ -32,6 +32,7 @@ use condition_table::Conditions;
 use event_table::Events;
 use ledger_book::laws::net_amounts_grow_by_each_posting;
 use ledger_book::{DebitFault, Ledger, LedgerFull, Staged};
+use order_table::Orders;
 use std::alloc::Global;
 use std::marker::Model;
 
@@ -45,6 +46,7 @@ pub struct Exchange {
     pub(crate) limits: Limits,
     pub(crate) events: Events,
     pub(crate) conditions: Conditions,
+    pub(crate) orders: Orders,
     pub(crate) ledger: Ledger,
     pub(crate) history: Vec<Act>,
 }
@@ -55,11 +57,11 @@ impl Model for Exchange {
 
     ghost Value = { ExchangeView };
 
-    ghost use Rattle.settle_core.specs.Kept.{IsKept};
+    ghost use Rattle.settle_core.specs.Kept.{AreOrdersOf, IsKept};
 
-    ghost view = { λ e. record { limits = e.limits; history = e.history.items; room = min (vec_capacity e.history - vec_len e.history) e.conditions.room; questions = min e.events.room e.conditions.room; ledger = e.ledger } };
+    ghost view = { λ e. record { limits = e.limits; history = e.history.items; room = min (min (vec_capacity e.history - vec_len e.history) e.conditions.room) e.orders.room; questions = min e.events.room e.conditions.room; ledger = e.ledger } };
 
-    ghost invariant = { λ e. IsKept e.limits e.events e.conditions e.ledger e.history.items };
+    ghost invariant = { λ e. IsKept e.limits e.events e.conditions e.ledger e.history.items × AreOrdersOf e.limits e.orders e.history.items };
 }
 
 impl Exchange {
@@ -75,6 +77,7 @@ impl Exchange {
             limits,
             events: Events::new(alloc, limits.events())?,
             conditions: Conditions::new(alloc, limits.conditions())?,
+            orders: Orders::new(alloc, limits.orders())?,
             ledger: Ledger::new(alloc, limits.entries())?,
             history: Vec::new(alloc),
         })
@@ -99,6 +102,7 @@ impl Exchange {
         let copy = act.copy(self.alloc)?;
         self.history.reserve(1)?;
         reserve(&mut self.events, &mut self.conditions, command)?;
+        self.orders.reserve()?;
         self.ledger.reserve(&changes.staged)?;
         Ok(Plan::new(act, copy, changes))
     }
@@ -119,6 +123,7 @@ impl Exchange {
             &act.command,
             changes.numerators,
         );
+        trade(&mut self.orders, act.account, &act.command);
         self.ledger.commit(changes.staged);
         self.history.push_reserved(act);
         changes.reply
@@ -156,6 +161,7 @@ impl Exchange {
     {
         match command {
             Command::Balance { of, key } => self.read_balance(account, *of, key),
+            Command::Order { order } => self.read_order(account, *order),
             Command::Vault => self.read_vault(account),
             _ => unreachable!(),
         }

@@ -21,7 +21,12 @@ pub fn built(command: &Command) -> bool
         Command::Answer { .. } => true,
         Command::Redeem { .. } => true,
         Command::Convert { .. } => true,
+        Command::Market { .. } => true,
+        Command::Place { .. } => true,
+        Command::Cancel { .. } => true,
+        Command::Bump => true,
         Command::Balance { .. } => true,
+        Command::Order { .. } => true,
         Command::Vault => true,
         _ => false,
     }

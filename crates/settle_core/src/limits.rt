@@ -1,4 +1,4 @@
-ghost use Rattle.std.specs.Prelude.{◌≡◌, ◌↔◌, ◌+◌, ◌≤◌, IsSome, IfSome};
+ghost use Rattle.std.specs.Prelude.{◌≡◌, ◌↔◌, ◌+◌, ◌<◌, ◌≤◌, IsSome, IfSome};
 ghost use Rattle.condition_sets.specs.declared.names.TheConstants.{MAX_CONDITION, MAX_EVENT};
 
 use command_words::MAX_HISTORY;
@@ -102,6 +102,14 @@ impl Limits {
         ensures within { result ≤ MAX_EVENT + 1 }
     {
         self.events
+    }
+
+    /// The most open orders of a market.
+    pub fn orders(&self) -> u32
+        ensures value { result ≡ self.now.orders }
+        ensures some { 0 < result }
+    {
+        self.orders
     }
 
     /// The most balances that are other than 0.

@@ -17,11 +17,11 @@ returns-clause-verdict c =
     let h = e.history.items in
     let allowed : (c.args.account == EXCHANGE) ≡ false = search (rules, tests) in
     let found : option_map facts_of (slice_get (events h) c.args.event) ≡ Some c.in-Some.facts
-    = ap (λ (es : List EventView). option_map facts_of (slice_get es c.args.event)) (sym c.self.invariant.events) ∙ (sym c.get-2.ensures.value ∙ c.in-Some.is) in
+    = ap (λ (es : List EventView). option_map facts_of (slice_get es c.args.event)) (sym c.self.invariant.0.events) ∙ (sym c.get-2.ensures.value ∙ c.in-Some.is) in
     let own : (c.in-Some.facts.oracle == c.args.account) ≡ true = search (rules, tests) in
     let question : question_in (events h) c.args.event c.args.question ≡ Some c.in-Some-question.condition
-    = ap (λ (es : List EventView). question_in es c.args.event c.args.question) (sym c.self.invariant.events) ∙ (sym c.question.ensures ∙ c.in-Some-question.is) in
-    let none : told h c.in-Some-question.condition ≡ None = sym (c.self.invariant.reports.each c.in-Some-question.condition) ∙ none-told _ (sym c.is_reported.ensures ∙ c.if-is_reported.false) in
+    = ap (λ (es : List EventView). question_in es c.args.event c.args.question) (sym c.self.invariant.0.events) ∙ (sym c.question.ensures ∙ c.in-Some-question.is) in
+    let none : told h c.in-Some-question.condition ≡ None = sym (c.self.invariant.0.reports.each c.in-Some-question.condition) ∙ none-told _ (sym c.is_reported.ensures ∙ c.if-is_reported.false) in
     let first = subst (λ (s : ExchangeView). cond c.args.yes (winner_in (events s.history) c.args.event) None ≡ None) (sym c.self.view_is) (sym c.winner_before.ensures ∙ c.in_default-winner_before.is) in
     let front = subst (λ (s : ExchangeView). verdict (asked s c.args.account (Answer c.args.event c.args.question c.args.yes) c.args.now) ≡ first_some (where_ (nat_le s.limits.history (length s.history)) HistoryFull ∷ [])) c.self.view_is
     (answer-front e.limits h c.args.account c.args.event c.args.question c.args.yes c.args.now c.in-Some.facts c.in-Some-question.condition (nat_le e.limits.history (length h)) allowed found own question none first refl) in

@@ -25,15 +25,15 @@ returns-in-Err-clause-verdict c =
     let allowed : (c.args.account == EXCHANGE) ≡ false = search (rules, tests) in
     subst (λ (s : ExchangeView). AnsweredBy {X = Changes} (verdict (asked s c.args.account (Merge c.args.parent.now c.args.condition c.args.sets.now c.args.amount) c.args.now)) (Err c.in-Err.refusal)) c.self.view_is
     (front-answered Partition Changes true e.limits e.history.items c.args.account c.args.parent.now c.as_slice.result.now c.args.condition c.args.sets.now c.as_slice-2.result.now c.args.amount c.args.now e.conditions.facts c.in-Err.refusal allowed
-    c.as_slice.ensures c.as_slice-2.ensures c.self.invariant.conditions c.in-Err.ensures.verdict)
+    c.as_slice.ensures c.as_slice-2.ensures c.self.invariant.0.conditions c.in-Err.ensures.verdict)
 
 pub returns-in-Err-Short-clause-verdict : goal.returns-in-Err-Short-clause-verdict
 returns-in-Err-Short-clause-verdict c =
     let e = c.self.inside in
     let h = e.history.items in
     let allowed : (c.args.account == EXCHANGE) ≡ false = search (rules, tests) in
-    let front = front-none true e.limits h c.args.account c.args.parent.now c.as_slice.result.now c.args.condition c.args.sets.now c.as_slice-2.result.now c.args.amount c.args.now e.conditions.facts allowed c.as_slice.ensures c.as_slice-2.ensures c.self.invariant.conditions c.in-Ok.ensures.verdict in
-    let told = partition-told e.limits e.events e.conditions e.ledger h c.self.invariant c.args.account c.args.parent.now c.as_slice.result.now c.in-Ok.parted.parent c.args.condition c.args.sets.now c.as_slice-2.result.now c.deref.result.now c.in-Ok.parted.union c.args.amount c.in-Some.amount
+    let front = front-none true e.limits h c.args.account c.args.parent.now c.as_slice.result.now c.args.condition c.args.sets.now c.as_slice-2.result.now c.args.amount c.args.now e.conditions.facts allowed c.as_slice.ensures c.as_slice-2.ensures c.self.invariant.0.conditions c.in-Ok.ensures.verdict in
+    let told = partition-told e.limits e.events e.conditions e.ledger h c.self.invariant.0 c.args.account c.args.parent.now c.as_slice.result.now c.in-Ok.parted.parent c.args.condition c.args.sets.now c.as_slice-2.result.now c.deref.result.now c.in-Ok.parted.union c.args.amount c.in-Some.amount
     c.as_slice.ensures c.as_slice-2.ensures c.in-Ok.ensures.parent c.in-Ok.ensures.union (c.deref.ensures.value ∙ c.in-Ok.ensures.sets) c.in-Some.ensures.value in
     let whole = whole_of c.in-Ok.parted.union c.in-Ok.parted.parent c.args.condition in
     let parts = parts_of c.in-Ok.parted.parent c.args.condition c.deref.result.now in
@@ -46,8 +46,8 @@ returns-in-Some-refusal_at_last-clause-verdict c =
     let e = c.self.inside in
     let h = e.history.items in
     let allowed : (c.args.account == EXCHANGE) ≡ false = search (rules, tests) in
-    let front = front-none true e.limits h c.args.account c.args.parent.now c.as_slice.result.now c.args.condition c.args.sets.now c.as_slice-2.result.now c.args.amount c.args.now e.conditions.facts allowed c.as_slice.ensures c.as_slice-2.ensures c.self.invariant.conditions c.in-Ok.ensures.verdict in
-    let told = partition-told e.limits e.events e.conditions e.ledger h c.self.invariant c.args.account c.args.parent.now c.as_slice.result.now c.in-Ok.parted.parent c.args.condition c.args.sets.now c.as_slice-2.result.now c.deref.result.now c.in-Ok.parted.union c.args.amount c.in-Some.amount
+    let front = front-none true e.limits h c.args.account c.args.parent.now c.as_slice.result.now c.args.condition c.args.sets.now c.as_slice-2.result.now c.args.amount c.args.now e.conditions.facts allowed c.as_slice.ensures c.as_slice-2.ensures c.self.invariant.0.conditions c.in-Ok.ensures.verdict in
+    let told = partition-told e.limits e.events e.conditions e.ledger h c.self.invariant.0 c.args.account c.args.parent.now c.as_slice.result.now c.in-Ok.parted.parent c.args.condition c.args.sets.now c.as_slice-2.result.now c.deref.result.now c.in-Ok.parted.union c.args.amount c.in-Some.amount
     c.as_slice.ensures c.as_slice-2.ensures c.in-Ok.ensures.parent c.in-Ok.ensures.union (c.deref.ensures.value ∙ c.in-Ok.ensures.sets) c.in-Some.ensures.value in
     let here = parting-last true e.limits h c.args.account c.args.parent.now c.args.condition c.args.sets.now c.args.amount c.args.now (amount_at e.ledger c.args.account) (whole_of c.in-Ok.parted.union c.in-Ok.parted.parent c.args.condition)
     (parts_of c.in-Ok.parted.parent c.args.condition c.deref.result.now) c.in-Some.amount c.plan_merge.new.s.postings front told c.in-Ok-plan_merge.ensures.short c.in-Ok-plan_merge.ensures.ok in
@@ -59,8 +59,8 @@ returns-clause-verdict c =
     let e = c.self.inside in
     let h = e.history.items in
     let allowed : (c.args.account == EXCHANGE) ≡ false = search (rules, tests) in
-    let front = front-none true e.limits h c.args.account c.args.parent.now c.as_slice.result.now c.args.condition c.args.sets.now c.as_slice-2.result.now c.args.amount c.args.now e.conditions.facts allowed c.as_slice.ensures c.as_slice-2.ensures c.self.invariant.conditions c.in-Ok.ensures.verdict in
-    let told = partition-told e.limits e.events e.conditions e.ledger h c.self.invariant c.args.account c.args.parent.now c.as_slice.result.now c.in-Ok.parted.parent c.args.condition c.args.sets.now c.as_slice-2.result.now c.deref.result.now c.in-Ok.parted.union c.args.amount c.in-Some.amount
+    let front = front-none true e.limits h c.args.account c.args.parent.now c.as_slice.result.now c.args.condition c.args.sets.now c.as_slice-2.result.now c.args.amount c.args.now e.conditions.facts allowed c.as_slice.ensures c.as_slice-2.ensures c.self.invariant.0.conditions c.in-Ok.ensures.verdict in
+    let told = partition-told e.limits e.events e.conditions e.ledger h c.self.invariant.0 c.args.account c.args.parent.now c.as_slice.result.now c.in-Ok.parted.parent c.args.condition c.args.sets.now c.as_slice-2.result.now c.deref.result.now c.in-Ok.parted.union c.args.amount c.in-Some.amount
     c.as_slice.ensures c.as_slice-2.ensures c.in-Ok.ensures.parent c.in-Ok.ensures.union (c.deref.ensures.value ∙ c.in-Ok.ensures.sets) c.in-Some.ensures.value in
     let here = parting-last true e.limits h c.args.account c.args.parent.now c.args.condition c.args.sets.now c.args.amount c.args.now (amount_at e.ledger c.args.account) (whole_of c.in-Ok.parted.union c.in-Ok.parted.parent c.args.condition)
     (parts_of c.in-Ok.parted.parent c.args.condition c.deref.result.now) c.in-Some.amount c.plan_merge.new.s.postings front told c.in-Ok-plan_merge.ensures.short c.in-Ok-plan_merge.ensures.ok in

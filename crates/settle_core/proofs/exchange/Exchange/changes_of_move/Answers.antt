@@ -27,8 +27,8 @@ returns-in-Err-clause-verdict c =
     let key = c.args.key.now in
     let allowed : (c.args.account == EXCHANGE) ≡ false = search (rules, tests) in
     let other : (c.args.to == EXCHANGE) ≡ false = search (rules, tests) in
-    let there : key_is_unprepared (conditions h) key ≡ false = (λ i. key_is_unprepared (sym c.self.invariant.conditions i) (sym c.as_slice-key.ensures i)) ∙ (sym c.key_is_unprepared.ensures ∙ c.if-key_is_unprepared.false) in
-    let proper : key_is_improper (conditions h) key ≡ false = (λ i. key_is_improper (sym c.self.invariant.conditions i) (sym c.as_slice-key.ensures i)) ∙ (sym c.key_is_improper.ensures ∙ c.if-key_is_improper.false) in
+    let there : key_is_unprepared (conditions h) key ≡ false = (λ i. key_is_unprepared (sym c.self.invariant.0.conditions i) (sym c.as_slice-key.ensures i)) ∙ (sym c.key_is_unprepared.ensures ∙ c.if-key_is_unprepared.false) in
+    let proper : key_is_improper (conditions h) key ≡ false = (λ i. key_is_improper (sym c.self.invariant.0.conditions i) (sym c.as_slice-key.ensures i)) ∙ (sym c.key_is_improper.ensures ∙ c.if-key_is_improper.false) in
     let few : nat_lt MAX_PAIRS (length key) ≡ false = subst (λ (k : Pairs). nat_lt MAX_PAIRS (length k) ≡ false) c.as_slice-key.ensures (search (rules, tests)) in
     let front = subst (λ (state : ExchangeView). IsToFund (asked state c.args.account (Move c.args.to key c.args.amount) c.args.now)) c.self.view_is (move-front e.limits h c.args.account c.args.to key c.args.amount c.args.now allowed other there proper few) in
     let short = subst (λ (k : Pairs). AnsweredBy {X = Unit} (option_map (λ short. Unfunded short.1 short.0) (first_short (balance s.history c.args.account) c.args.amount (k ∷ []))) (Err c.in-Err.refusal))
@@ -43,8 +43,8 @@ returns-in-Some-clause-verdict c =
     let key = c.args.key.now in
     let allowed : (c.args.account == EXCHANGE) ≡ false = search (rules, tests) in
     let other : (c.args.to == EXCHANGE) ≡ false = search (rules, tests) in
-    let there : key_is_unprepared (conditions h) key ≡ false = (λ i. key_is_unprepared (sym c.self.invariant.conditions i) (sym c.as_slice-key.ensures i)) ∙ (sym c.key_is_unprepared.ensures ∙ c.if-key_is_unprepared.false) in
-    let proper : key_is_improper (conditions h) key ≡ false = (λ i. key_is_improper (sym c.self.invariant.conditions i) (sym c.as_slice-key.ensures i)) ∙ (sym c.key_is_improper.ensures ∙ c.if-key_is_improper.false) in
+    let there : key_is_unprepared (conditions h) key ≡ false = (λ i. key_is_unprepared (sym c.self.invariant.0.conditions i) (sym c.as_slice-key.ensures i)) ∙ (sym c.key_is_unprepared.ensures ∙ c.if-key_is_unprepared.false) in
+    let proper : key_is_improper (conditions h) key ≡ false = (λ i. key_is_improper (sym c.self.invariant.0.conditions i) (sym c.as_slice-key.ensures i)) ∙ (sym c.key_is_improper.ensures ∙ c.if-key_is_improper.false) in
     let few : nat_lt MAX_PAIRS (length key) ≡ false = subst (λ (k : Pairs). nat_lt MAX_PAIRS (length k) ≡ false) c.as_slice-key.ensures (search (rules, tests)) in
     let front = subst (λ (state : ExchangeView). IsToFund (asked state c.args.account (Move c.args.to key c.args.amount) c.args.now)) c.self.view_is (move-front e.limits h c.args.account c.args.to key c.args.amount c.args.now allowed other there proper few) in
     let is_key : c.collection_of-collection.result ≡ key = c.collection_of-collection.ensures ∙ c.as_slice-key.ensures in

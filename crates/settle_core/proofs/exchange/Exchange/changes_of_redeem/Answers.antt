@@ -26,15 +26,15 @@ returns-in-Err-clause-verdict c =
     let allowed : (c.args.account == EXCHANGE) ≡ false = search (rules, tests) in
     subst (λ (s : ExchangeView). AnsweredBy {X = Changes} (verdict (asked s c.args.account (Redeem c.args.parent.now c.args.condition c.args.sets.now) c.args.now)) (Err c.in-Err.refusal)) c.self.view_is
     (choice-answered Choice Changes e.limits e.history.items c.args.account c.args.parent.now c.as_slice.result.now c.args.condition c.args.sets.now c.as_slice-2.result.now c.args.now e.conditions.facts c.in-Err.refusal allowed
-    c.as_slice.ensures c.as_slice-2.ensures c.self.invariant.conditions c.in-Err.ensures.verdict)
+    c.as_slice.ensures c.as_slice-2.ensures c.self.invariant.0.conditions c.in-Err.ensures.verdict)
 
 pub returns-in_default-clause-verdict : goal.returns-in_default-clause-verdict
 returns-in_default-clause-verdict c =
     let e = c.self.inside in
     let h = e.history.items in
     let allowed : (c.args.account == EXCHANGE) ≡ false = search (rules, tests) in
-    let none : told h c.args.condition ≡ None = sym (c.self.invariant.reports.each c.args.condition) ∙ c.in_default.ensures.value in
-    let front = redeem-front e.limits h c.args.account c.args.parent.now c.as_slice.result.now c.args.condition c.args.sets.now c.as_slice-2.result.now c.args.now e.conditions.facts None allowed c.as_slice.ensures c.as_slice-2.ensures c.self.invariant.conditions c.in-Ok.ensures.verdict none in
+    let none : told h c.args.condition ≡ None = sym (c.self.invariant.0.reports.each c.args.condition) ∙ c.in_default.ensures.value in
+    let front = redeem-front e.limits h c.args.account c.args.parent.now c.as_slice.result.now c.args.condition c.args.sets.now c.as_slice-2.result.now c.args.now e.conditions.facts None allowed c.as_slice.ensures c.as_slice-2.ensures c.self.invariant.0.conditions c.in-Ok.ensures.verdict none in
     subst (λ (s : ExchangeView). verdict (asked s c.args.account (Redeem c.args.parent.now c.args.condition c.args.sets.now) c.args.now) ≡ Some NotReported) c.self.view_is front
 
 pub refusal_at_last-requires-clause-some : goal.refusal_at_last-requires-clause-some
@@ -49,7 +49,7 @@ returns-in-Some-refusal_at_last-clause-verdict c =
     let e = c.self.inside in
     let h = e.history.items in
     let allowed : (c.args.account == EXCHANGE) ≡ false = search (rules, tests) in
-    let here = redeem-last e.limits e.events e.conditions e.ledger h c.self.invariant c.args.account c.args.parent.now c.as_slice.result.now c.in-Ok.chosen.parent c.args.condition c.args.sets.now c.as_slice-2.result.now c.deref.result.now c.args.now c.in-Some.numerators.now c.plan_redeem.new.s.postings
+    let here = redeem-last e.limits e.events e.conditions e.ledger h c.self.invariant.0 c.args.account c.args.parent.now c.as_slice.result.now c.in-Ok.chosen.parent c.args.condition c.args.sets.now c.as_slice-2.result.now c.deref.result.now c.args.now c.in-Some.numerators.now c.plan_redeem.new.s.postings
     allowed c.as_slice.ensures c.as_slice-2.ensures c.in-Ok.ensures.parent (c.deref.ensures.value ∙ c.in-Ok.ensures.sets) c.in-Ok.ensures.verdict c.in-Some.ensures.value c.in_ok-paid.ensures.postings in
     let last = subst (λ (s : ExchangeView). verdict (asked s c.args.account (Redeem c.args.parent.now c.args.condition c.args.sets.now) c.args.now) ≡ last_refusals s.limits s.history c.plan_redeem.new.s.postings) c.self.view_is here in
     answered-err Changes _ c.in-Some-refusal_at_last.refusal (last ∙ (sym c.refusal_at_last.ensures ∙ c.in-Some-refusal_at_last.is))
@@ -59,7 +59,7 @@ returns-clause-verdict c =
     let e = c.self.inside in
     let h = e.history.items in
     let allowed : (c.args.account == EXCHANGE) ≡ false = search (rules, tests) in
-    let here = redeem-last e.limits e.events e.conditions e.ledger h c.self.invariant c.args.account c.args.parent.now c.as_slice.result.now c.in-Ok.chosen.parent c.args.condition c.args.sets.now c.as_slice-2.result.now c.deref.result.now c.args.now c.in-Some.numerators.now c.plan_redeem.new.s.postings
+    let here = redeem-last e.limits e.events e.conditions e.ledger h c.self.invariant.0 c.args.account c.args.parent.now c.as_slice.result.now c.in-Ok.chosen.parent c.args.condition c.args.sets.now c.as_slice-2.result.now c.deref.result.now c.args.now c.in-Some.numerators.now c.plan_redeem.new.s.postings
     allowed c.as_slice.ensures c.as_slice-2.ensures c.in-Ok.ensures.parent (c.deref.ensures.value ∙ c.in-Ok.ensures.sets) c.in-Ok.ensures.verdict c.in-Some.ensures.value c.in_ok-paid.ensures.postings in
     let last = subst (λ (s : ExchangeView). verdict (asked s c.args.account (Redeem c.args.parent.now c.args.condition c.args.sets.now) c.args.now) ≡ last_refusals s.limits s.history c.plan_redeem.new.s.postings) c.self.view_is here in
     last ∙ (sym c.refusal_at_last.ensures ∙ c.in-None.is)

@@ -16,9 +16,9 @@ returns-then-is_no_report-clause-verdict c =
     let e = c.self.inside in
     let h = e.history.items in
     let allowed : (c.args.account == EXCHANGE) ≡ false = search (rules, tests) in
-    let at : slice_get (conditions h) c.args.condition ≡ Some c.in-Some.facts = ap (λ (facts : List Facts). slice_get facts c.args.condition) (sym c.self.invariant.conditions) ∙ (sym c.get-2.ensures ∙ c.in-Some.is) in
+    let at : slice_get (conditions h) c.args.condition ≡ Some c.in-Some.facts = ap (λ (facts : List Facts). slice_get facts c.args.condition) (sym c.self.invariant.0.conditions) ∙ (sym c.get-2.ensures ∙ c.in-Some.is) in
     let own : (c.in-Some.facts.oracle == c.args.account) ≡ true = search (rules, tests) in
-    let none : told h c.args.condition ≡ None = sym (c.self.invariant.reports.each c.args.condition) ∙ none-told _ (sym c.is_reported.ensures ∙ c.if-is_reported.false) in
+    let none : told h c.args.condition ≡ None = sym (c.self.invariant.0.reports.each c.args.condition) ∙ none-told _ (sym c.is_reported.ensures ∙ c.if-is_reported.false) in
     let bad : is_no_report (Some c.in-Some.facts) c.args.payouts.now ≡ true = ap (λ (payouts : List ℕ). is_no_report (Some c.in-Some.facts) payouts) (sym c.as_slice.ensures) ∙ (sym c.is_no_report.ensures ∙ c.if-is_no_report.true) in
     subst (λ (s : ExchangeView). verdict (asked s c.args.account (Report c.args.condition c.args.payouts.now) c.args.now) ≡ Some BadPayouts) c.self.view_is
     (report-front e.limits h c.args.account c.args.condition c.args.payouts.now c.args.now c.in-Some.facts true (nat_le e.limits.history (length h)) allowed at own none bad refl)
@@ -28,9 +28,9 @@ returns-then-is_full-clause-verdict c =
     let e = c.self.inside in
     let h = e.history.items in
     let allowed : (c.args.account == EXCHANGE) ≡ false = search (rules, tests) in
-    let at : slice_get (conditions h) c.args.condition ≡ Some c.in-Some.facts = ap (λ (facts : List Facts). slice_get facts c.args.condition) (sym c.self.invariant.conditions) ∙ (sym c.get-2.ensures ∙ c.in-Some.is) in
+    let at : slice_get (conditions h) c.args.condition ≡ Some c.in-Some.facts = ap (λ (facts : List Facts). slice_get facts c.args.condition) (sym c.self.invariant.0.conditions) ∙ (sym c.get-2.ensures ∙ c.in-Some.is) in
     let own : (c.in-Some.facts.oracle == c.args.account) ≡ true = search (rules, tests) in
-    let none : told h c.args.condition ≡ None = sym (c.self.invariant.reports.each c.args.condition) ∙ none-told _ (sym c.is_reported.ensures ∙ c.if-is_reported.false) in
+    let none : told h c.args.condition ≡ None = sym (c.self.invariant.0.reports.each c.args.condition) ∙ none-told _ (sym c.is_reported.ensures ∙ c.if-is_reported.false) in
     let good : is_no_report (Some c.in-Some.facts) c.args.payouts.now ≡ false = ap (λ (payouts : List ℕ). is_no_report (Some c.in-Some.facts) payouts) (sym c.as_slice.ensures) ∙ (sym c.is_no_report.ensures ∙ c.if-is_no_report.false) in
     let front = subst (λ (s : ExchangeView). verdict (asked s c.args.account (Report c.args.condition c.args.payouts.now) c.args.now) ≡ first_some (where_ (nat_le s.limits.history (length s.history)) HistoryFull ∷ [])) c.self.view_is
     (report-front e.limits h c.args.account c.args.condition c.args.payouts.now c.args.now c.in-Some.facts false (nat_le e.limits.history (length h)) allowed at own none good refl) in
@@ -41,9 +41,9 @@ returns-clause-verdict c =
     let e = c.self.inside in
     let h = e.history.items in
     let allowed : (c.args.account == EXCHANGE) ≡ false = search (rules, tests) in
-    let at : slice_get (conditions h) c.args.condition ≡ Some c.in-Some.facts = ap (λ (facts : List Facts). slice_get facts c.args.condition) (sym c.self.invariant.conditions) ∙ (sym c.get-2.ensures ∙ c.in-Some.is) in
+    let at : slice_get (conditions h) c.args.condition ≡ Some c.in-Some.facts = ap (λ (facts : List Facts). slice_get facts c.args.condition) (sym c.self.invariant.0.conditions) ∙ (sym c.get-2.ensures ∙ c.in-Some.is) in
     let own : (c.in-Some.facts.oracle == c.args.account) ≡ true = search (rules, tests) in
-    let none : told h c.args.condition ≡ None = sym (c.self.invariant.reports.each c.args.condition) ∙ none-told _ (sym c.is_reported.ensures ∙ c.if-is_reported.false) in
+    let none : told h c.args.condition ≡ None = sym (c.self.invariant.0.reports.each c.args.condition) ∙ none-told _ (sym c.is_reported.ensures ∙ c.if-is_reported.false) in
     let good : is_no_report (Some c.in-Some.facts) c.args.payouts.now ≡ false = ap (λ (payouts : List ℕ). is_no_report (Some c.in-Some.facts) payouts) (sym c.as_slice.ensures) ∙ (sym c.is_no_report.ensures ∙ c.if-is_no_report.false) in
     let front = subst (λ (s : ExchangeView). verdict (asked s c.args.account (Report c.args.condition c.args.payouts.now) c.args.now) ≡ first_some (where_ (nat_le s.limits.history (length s.history)) HistoryFull ∷ [])) c.self.view_is
     (report-front e.limits h c.args.account c.args.condition c.args.payouts.now c.args.now c.in-Some.facts false (nat_le e.limits.history (length h)) allowed at own none good refl) in

@@ -1,12 +1,13 @@
-use Rattle.std.proofs.Common.{◌≡◌, ◌==◌, ℕ, ◌∷◌, [], length, false, None, Err, rules, tests, sym, ap, subst, ◌∙◌}
+use Rattle.std.proofs.Common.{◌≡◌, ◌==◌, ℕ, ◌∷◌, [], length, false, None, Err, rules, tests, refl, sym, ap, subst, ◌∙◌}
 use Rattle.std.specs.Prelude.{nat_le, option_map}
 use Rattle.collection_keys.specs.Collections.{Pairs, root}
 use Rattle.command_words.specs.declared.command.Command.TheVariants.{Withdraw}
 use Rattle.command_words.specs.declared.refusal.Refusal.TheVariants.{Unfunded, HistoryFull}
 use Rattle.condition_sets.specs.declared.names.TheConstants.{EXCHANGE}
 use Rattle.ledger_book.specs.Planning.{first_short}
-use Rattle.ledger_book.specs.Postings.{debit}
-use Rattle.settle_core.specs.Exchange.{asked}
+use Rattle.std.proofs.lemmas.Int.{ints}
+use Rattle.ledger_book.specs.Postings.{IsFunded, debit}
+use Rattle.settle_core.specs.Exchange.{AreChangesOf, asked, vault_change}
 use Rattle.settle_core.specs.Postings.{balance}
 use Rattle.settle_core.specs.Refusals.{where_, supply_limit, entries_limit}
 use Rattle.settle_core.specs.Verdict.{AnsweredBy}
@@ -36,3 +37,12 @@ returns-in-Some-clause-verdict c =
     (map-none (λ (short : ℕ × ℕ). Unfunded short.1 short.0) (first_short (balance s.history c.args.account) c.args.amount (root ∷ [])) funds) in
     let posted : debit c.args.account root c.args.amount ∷ [] ≡ c.change_vault.new.self.postings = search rules in
     answered-err Changes _ c.in-Some.refusal (last ∙ ap (λ ps. last_refusals s.limits s.history ps) posted ∙ sym c.refusal_at_last.ensures ∙ c.in-Some.is)
+
+pub returns-in-None-clause-changes : goal.returns-in-None-clause-changes
+returns-in-None-clause-changes c =
+    let s = c.args.self.now in
+    let posted : c.change_vault.new.self.postings ≡ debit c.args.account root c.args.amount ∷ [] = search rules in
+    let funded : IsFunded (balance s.history) c.change_vault.new.self.postings = search rules in
+    let changed : c.change_vault.new.self.vault ≡ vault_change (Withdraw c.args.amount) = search (rules, ints) in
+    subst (λ (x : Changes). AreChangesOf s.history c.args.account (Withdraw c.args.amount) x) (sym c.done.ensures)
+    (record { postings = posted; vault = changed; funded = funded; numerators = refl; reply = refl })

@@ -38,7 +38,7 @@ same-legal old new same legal =
 
 pub returns-in-Err-redo-clause-illegal : goal.returns-in-Err-redo-clause-illegal
 returns-in-Err-redo-clause-illegal c =
-    let now : IsLegal c.redo.new.self.limits c.redo.new.self.history = subst (λ (s : ExchangeView). IsLegal s.limits s.history) c.exchange.view_is c.exchange.invariant.legal in
+    let now : IsLegal c.redo.new.self.limits c.redo.new.self.history = subst (λ (s : ExchangeView). IsLegal s.limits s.history) c.exchange.view_is c.exchange.invariant.0.legal in
     let before = same-legal c.loop-act.exchange c.redo.new.self c.in-Err-redo.ensures.same now in
     let legal = subst (λ (h : List Act). IsLegal c.args.limits h) c.loop-act.invariant.history (subst (λ (b : Bounds). IsLegal b c.loop-act.exchange.history) c.loop-act.invariant.limits before) in
     let stop = subst (λ (h : List Act). IsStopped c.args.limits h c.act-item.result c.in-Err-redo.fault) c.loop-act.invariant.history (subst (λ (b : Bounds). IsStopped b c.loop-act.exchange.history c.act-item.result c.in-Err-redo.fault) c.loop-act.invariant.limits c.in-Err-redo.ensures.stopped) in
