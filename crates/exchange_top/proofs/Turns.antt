@@ -1,6 +1,6 @@
 -- What an answer rests on, and what it adds to the history.
 use Rattle.std.proofs.Common.{◌≡◌, ◌⊎◌, ℕ, ◌≤◌, List, length, Option, Some, None, Bool, true, false, Result, Ok, Err, refl, ap, inl, inr, arith, length-append}
-use Rattle.std.specs.Prelude.{MatchBool}
+use Rattle.std.specs.Prelude.{MatchBool, slice_get}
 use Rattle.line_link.specs.Lines.{Heard, kept, too_long}
 use Rattle.command_words.specs.Reply.{rests_of}
 use Rattle.command_words.specs.declared.act.Act.{Act}
@@ -12,7 +12,8 @@ use Rattle.command_words.specs.declared.line_fault.LineFault.{LineFault}
 use Rattle.command_words.specs.declared.reply.Reply.{Reply}
 use Rattle.command_words.specs.declared.reply.Reply.TheVariants.{Bad}
 use Rattle.settle_core.specs.Bounds.{Bounds}
-use Rattle.settle_core.specs.Reply.{Answered, is_no_memory, reply_by, history_by}
+use Rattle.settle_core.specs.Orders.{orders}
+use Rattle.settle_core.specs.Reply.{Answered, is_no_memory, ordered_reply, reply_by, history_by}
 use Rattle.settle_core.specs.Built.{is_built}
 use Rattle.settle_core.specs.Refusals.{Question}
 use Rattle.settle_core.specs.Verdict.{verdict, AnsweredBy}
@@ -40,7 +41,11 @@ accepted-step : (limits : Bounds) (history : List Act) (account : ℕ) (command 
     → let q : Question = record { limits = limits; history = history; account = account; command = command; moment = moment } in
     IsSmallStep history (history_by None q) (reply_by None q)
 accepted-step limits history account (Cross market) moment built = cc
-accepted-step limits history account (Order order) moment built = cc
+accepted-step limits history account (Order order) moment built = record { step = inl refl; rests = omega (arith, reading (slice_get (orders history) order)) }
+  where
+    reading : (o : Option _) → rests_of (ordered_reply (length history) o) ≡ length history
+    reading None = refl
+    reading (Some v) = refl
 accepted-step limits history account (Balance holder key) moment built = record { step = inl refl; rests = omega arith }
 accepted-step limits history account Vault moment built = record { step = inl refl; rests = omega arith }
 accepted-step limits history account command moment built = record { step = inr (_, refl); rests = omega (arith, length-append {A = Act}, accepted-rests history account command refl) }
