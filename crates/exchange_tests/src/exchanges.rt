@@ -1,12 +1,29 @@
 //! Exchanges by their own calls: small limits, which no word of the program sets, a plan, and a replay.
 
-use crate::ledgers::told;
 use collection_keys::Collection;
 use command_words::Command;
 use condition_sets::{AccountId, Bits, ConditionId, EventId, MAX_AMOUNT, Pairs};
+use ledger_book::Ledger;
 use settle_core::{Exchange, Limits, ReplayFault, built};
 use std::alloc::Global;
 use std::test::Fail;
+
+/// A ledger's vault and number of entries, and each name with its supply.
+fn told(alloc: Global, ledger: &Ledger) -> Result<String, Fail> {
+    let mut told = format!(in alloc; "vault {}, entries {}:", ledger.vault(), ledger.entries())?;
+    for number in 0..ledger.names() {
+        let name = ledger.name(number);
+        told.push_str(" [")?;
+        for place in 0..name.len() {
+            let (condition, set) = name.pair(place);
+            let pair = format!(in alloc; "({},{})", condition.get(), set.bits())?;
+            told.push_str(pair.as_str())?;
+        }
+        let supply = format!(in alloc; "]={}", ledger.supply(&name))?;
+        told.push_str(supply.as_str())?;
+    }
+    Ok(told)
+}
 
 fn deposit(to: u16, amount: u64) -> Command {
     Command::Deposit {

@@ -1,39 +1,13 @@
-//! Tests of what no line of a client reaches, over all crates below the program. It has nothing else: `rt test` runs
-//! them.
+//! Tests of what no line of a client reaches, over the exchange itself. It has nothing else: `rt test` runs them.
 //!
-//! What lines reach is told by the cases of `exchange_cases`. Here public calls that no request makes yet succeed once,
-//! small limits are reached, and the images that a disk lists and the texts of all replies are compared with examples
-//! that were written by hand.
+//! What lines reach is told by the cases of `exchange_cases`. Here small limits are reached, which no word of the program
+//! sets, and the texts of errors are compared that the program doesn't print.
 #![tactic(auto)]
 
-#[cfg(test)]
-mod collections;
-#[cfg(test)]
-mod disks;
 #[cfg(test)]
 mod errors;
 #[cfg(test)]
 mod exchanges;
-#[cfg(test)]
-mod fees;
-#[cfg(test)]
-mod journals;
-#[cfg(test)]
-mod ledgers;
-#[cfg(test)]
-mod lines;
-#[cfg(test)]
-mod memory;
-#[cfg(test)]
-mod orders;
-#[cfg(test)]
-mod plans;
-#[cfg(test)]
-mod refusals;
-#[cfg(test)]
-mod replies;
-#[cfg(test)]
-mod trial;
 
 fn main(rt: HostRuntime) {
     let _ = println!(rt; "rt test runs the tests");
