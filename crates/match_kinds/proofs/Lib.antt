@@ -1,4 +1,5 @@
 mod Balance
+pub mod Covered
 mod Funding
 mod Prices
 mod Room

@@ -8,8 +8,9 @@ use collection_keys::Collection;
 use condition_sets::{ConditionId, IndexSet, SlotCount};
 use order_rules::{Side, Token};
 
-// The collection of what a part pays.
-pub(crate) fn paid_asset(market: ConditionId, part: &Part) -> Collection
+/// The collection of what a part pays: cash of a buyer, shares of its token of a seller. (Polymarket CTF Exchange, first
+/// published source.)
+pub fn paid_asset(market: ConditionId, part: &Part) -> Collection
     ensures { result ≡ paid_asset market part.now }
 {
     match part.limit.side() {

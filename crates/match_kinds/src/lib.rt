@@ -14,5 +14,6 @@ mod part;
 mod proceeds;
 mod settle;
 
+pub use assets::paid_asset;
 pub use part::{MAX_MAKERS, Part};
 pub use settle::{MatchFault, MatchSums, plan_match};
