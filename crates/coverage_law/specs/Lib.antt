@@ -1,3 +1,4 @@
+pub mod Fairness
 pub mod Need
 pub mod Outcomes
 pub mod Worth
