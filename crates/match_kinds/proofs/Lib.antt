@@ -1,4 +1,4 @@
-mod Balance
+pub mod Balance
 pub mod Covered
 mod Funding
 mod Prices
