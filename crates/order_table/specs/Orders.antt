@@ -2,7 +2,7 @@
 -- Source: Polymarket CTF Exchange, first published source: orders and nonces. Markets and orders' numbers are our own.
 use Rattle.std.specs.Prelude.{◌≡◌, ◌==◌, ℕ, ◌+◌, ◌-◌, ◌≤◌, Bool, true, false, not, ◌&&◌, nat_lt, List, slice_get, slice_index_or, Option}
 use Rattle.std.specs.List.{count_by}
-use Rattle.order_table.specs.declared.order.OrderFacts.{OrderFacts}
+use Rattle.order_table.specs.declared.order.OrderState.{OrderState}
 use Rattle.order_table.specs.declared.order.Placed.{Placed}
 
 -- what contracts see of an order: as it was placed, what was filled of what it makes, and whether it was ended
@@ -31,8 +31,8 @@ abbrev pub rest_of : OrderView → ℕ
 rest_of order = order.placed.limit.making - order.filled
 
 -- what is told of it
-abbrev pub facts_of : OrderView → OrderFacts
-facts_of order = record { placed = order.placed; filled = order.filled; is_open = is_open order }
+abbrev pub state_of : OrderView → OrderState
+state_of order = record { placed = order.placed; filled = order.filled; is_open = is_open order }
 
 -- the order of a number, where there is one
 abbrev pub order_at : List OrderView → ℕ → Option OrderView

@@ -11,5 +11,5 @@ pub mod laws;
 mod order;
 mod orders;
 
-pub use order::{OrderFacts, Placed};
+pub use order::{OrderState, Placed};
 pub use orders::{MAX_NONCE, MAX_ORDERS, Orders};

@@ -1,7 +1,7 @@
 //! An order as it was placed, and as the table keeps it.
 
 ghost use Rattle.std.specs.Prelude.{◌≡◌, ◌≤◌, true, false};
-ghost use Rattle.order_table.specs.Orders.{after_end, after_fill, facts_of, is_open, rest_of};
+ghost use Rattle.order_table.specs.Orders.{after_end, after_fill, state_of, is_open, rest_of};
 
 use condition_sets::{AccountId, ConditionId};
 use order_rules::{Limit, Token};
@@ -24,7 +24,7 @@ pub struct Placed {
 /// An order as it was placed, what was filled of it in units of what its maker pays, and whether it is open: neither ended
 /// nor filled to what it makes.
 #[derive(Clone, Copy, Debug, PartialEq, Eq)]
-pub struct OrderFacts {
+pub struct OrderState {
     pub placed: Placed,
     pub filled: u64,
     pub is_open: bool,
@@ -63,12 +63,12 @@ impl Order {
         }
     }
 
-    // Its facts.
-    pub(crate) fn facts(&self) -> OrderFacts
-        ensures value { result ≡ facts_of self.now }
+    // Its state.
+    pub(crate) fn state(&self) -> OrderState
+        ensures value { result ≡ state_of self.now }
         ensures within { result.filled ≤ result.placed.limit.making }
     {
-        OrderFacts {
+        OrderState {
             placed: self.placed,
             filled: self.filled,
             is_open: self.is_open(),

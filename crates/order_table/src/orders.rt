@@ -1,8 +1,8 @@
 ghost use Rattle.std.specs.Prelude.{◌≡◌, ◌≢◌, ℕ, ◌+◌, ◌-◌, ◌<◌, ◌≤◌, ◌↔◌, [], ◌∷◌, ◌++◌, length, slice_set, true, false, Some, IfOk, IfSome, IsTrue, MatchOption, OnOk, option_map};
 ghost use Rattle.std.specs.Option.{unwrap_or};
-ghost use Rattle.order_table.specs.Orders.{MayFill, after_end, after_fill, facts_of, is_market, is_open, nonce_of, open_in, order_at};
+ghost use Rattle.order_table.specs.Orders.{MayFill, after_end, after_fill, state_of, is_market, is_open, nonce_of, open_in, order_at};
 
-use crate::order::{Order, OrderFacts, Placed};
+use crate::order::{Order, OrderState, Placed};
 use condition_sets::{AccountId, ConditionId, MAX_CONDITION, NoMemory, OrderId};
 use std::alloc::Global;
 use std::marker::Model;
@@ -67,14 +67,14 @@ impl Orders {
         self.orders.len() as u32
     }
 
-    /// The facts of an order; `None` exactly where none has this number. It takes no memory.
-    pub fn get(&self, o: OrderId) -> Option<OrderFacts>
-        ensures value { result ≡ option_map facts_of (order_at self.now.orders o) }
-        ensures within { IfSome result (λ facts. facts.filled ≤ facts.placed.limit.making) }
-        ensures market { IfSome result (λ facts. facts.is_open ≡ true → is_market self.now facts.placed.market ≡ true) }
+    /// The state of an order; `None` exactly where none has this number. It takes no memory.
+    pub fn get(&self, o: OrderId) -> Option<OrderState>
+        ensures value { result ≡ option_map state_of (order_at self.now.orders o) }
+        ensures within { IfSome result (λ order. order.filled ≤ order.placed.limit.making) }
+        ensures market { IfSome result (λ order. order.is_open ≡ true → is_market self.now order.placed.market ≡ true) }
     {
         let order = self.orders.get(o.get() as usize)?;
-        Some(order.facts())
+        Some(order.state())
     }
 
     /// Whether a condition is a market. It takes no memory.
