@@ -10,6 +10,7 @@ use Rattle.std.proofs.lemmas.Option.{slice_get-get_or}
 use Rattle.std.proofs.Math.Nat.{le_of_mul-le-mul_left, mul_comm, add-mul}
 use Rattle.collection_keys.specs.Collections.{Pairs, root}
 use Rattle.collection_keys.specs.Comparing.{same_collection}
+use Rattle.command_words.proofs.Acts.{act-ranges}
 use Rattle.command_words.specs.Command.{in_ranges}
 use Rattle.command_words.specs.declared.act.Act.{Act}
 use Rattle.command_words.specs.declared.command.Command.{Command}
@@ -44,6 +45,8 @@ use Rattle.settle_core.proofs.Inductions.{legal-all}
 use Rattle.settle_core.proofs.Known.{known-both, known-posted}
 use Rattle.settle_core.proofs.Lists.{behind-holds, front-holds, get-before, none-told-before, told-before}
 use Rattle.settle_core.proofs.Lowest.{earlier-of-supply}
+use Rattle.settle_core.proofs.Markets.{AreTraded, traded-more, traded-start}
+use Rattle.settle_core.proofs.Matched.{IsMatched, accepted-match}
 use Rattle.settle_core.proofs.Moves.{moved-exact, moved-within}
 use Rattle.settle_core.proofs.Orderly.{IsAnswer, IsOrderlyBy, IsOrderlyOf, IsQuestionIn, each-question, orderly-start, plain, questions-answered, right-of}
 use Rattle.settle_core.proofs.Settled.{IsSettled, settled-all, settled-fewer, settled-posted, settled-prepared, settled-reported, settled-start}
@@ -100,34 +103,34 @@ fewer b paid_in paid_out act so_far =
 -- ---- one command more
 
 -- what an accepted command posts takes what is there, so that no position falls below 0
-above-more : (limits : Bounds) (history : List Act) (act : Act) → IsOrderlyBy history → IsFunded (λ a k. 0) (postings history) → AreNone (earlier (question_of limits history act))
+above-more : (limits : Bounds) (history : List Act) (act : Act) → IsOrderlyBy history → IsMatched history act.command → IsFunded (λ a k. 0) (postings history) → AreNone (earlier (question_of limits history act))
     → IsFunded (λ a k. 0) (postings history ++ postings_of (book history) act.account act.command)
-above-more limits history act is above none a k =
+above-more limits history act is matched above none a k =
     let ps = postings history in
     let qs = postings_of (book history) act.account act.command in
     omega (
       arith,
       above a k,
-      funded-by limits history act.account act.moment act.command is none a k,
+      funded-by limits history act.account act.moment act.command is matched none a k,
       sum_by-append (paid_to_account a k) ps qs,
       sum_by-append (taken_from_account a k) ps qs,
     )
 
 -- a command that prepares and reports nothing
-posted : (limits : Bounds) (history : List Act) (act : Act) → IsOrderlyBy history → IsSettledBy history
+posted : (limits : Bounds) (history : List Act) (act : Act) → IsOrderlyBy history → IsMatched history act.command → IsSettledBy history
     → prepared_by (events history) act.command ≡ [] → reported_by act.command ≡ [] → AreNone (earlier (question_of limits history act)) → IsSettledWith history act
-posted limits history act is so_far no_condition no_report none =
+posted limits history act is matched so_far no_condition no_report none =
     let b = book history in
     let IsOne : Outcome → Type 0 = λ outcome. IsLawful (outlook_of (entered b act)) outcome in
     let HasWon : Outcome → Type 0 = λ outcome. HaveWinners outcome (entered b act).conversions in
     settled-same (conditions history) _ (reports history) _ _ _ _ _ _ _ IsOne HasWon (sym (ap (λ cs. conditions history ++ cs) no_condition ∙ append-nil (conditions history))) (sym (ap (λ rs. reports history ++ rs) no_report ∙ append-nil (reports history))) refl refl refl
     (settled-posted (conditions history) (reports history) (postings history) (postings_of b act.account act.command) (deposited history) (withdrawn history) (deposit_of act.command) (withdrawal_of act.command) IsOne HasWon
     (fewer b (deposited history) (withdrawn history) act so_far)
-    (above-more limits history act is so_far.above none)
-    (known-both (length (conditions history)) (postings history) (postings_of b act.account act.command) so_far.known (known-posted limits history act.account act.moment act.command is none))
-    (λ outcome lawful. moved-within limits history act.account act.moment act.command outcome is (lawful-before b act outcome lawful) none)
+    (above-more limits history act is matched so_far.above none)
+    (known-both (length (conditions history)) (postings history) (postings_of b act.account act.command) so_far.known (known-posted limits history act.account act.moment act.command is matched none))
+    (λ outcome lawful. moved-within limits history act.account act.moment act.command outcome is (lawful-before b act outcome lawful) matched none)
     (λ before outcome lawful won. moved-exact limits history act.account act.moment act.command outcome is (lawful-before b act outcome lawful) before
-    (behind-holds (λ (qs : List ℕ). winners outcome qs ≡ 1) b.conversions (converted_by b.events act.command) won) none))
+    (behind-holds (λ (qs : List ℕ). winners outcome qs ≡ 1) b.conversions (converted_by b.events act.command) won) matched none))
 
 -- a condition of another oracle isn't answered, and is no event's question
 unanswered : (history : List Act) (c : ℕ) (f : Facts) → IsOrderlyBy history → slice_get (conditions history) c ≡ Some f → (f.oracle ≡ EXCHANGE → ⊥) → numerators_on (answers history) c ≡ None
@@ -161,38 +164,49 @@ reported-more limits history account moment condition payouts is so_far none =
     (apart history condition right.facts is right.there right.other)))
 
 -- each command that no refusal below that of a supply meets
-pub settled-with : (limits : Bounds) (history : List Act) (account moment : ℕ) (command : Command) → IsOrderlyBy history → IsSettledBy history
+pub settled-with : (limits : Bounds) (history : List Act) (account moment : ℕ) (command : Command) → IsOrderlyBy history → IsMatched history command → IsSettledBy history
     → AreNone (earlier (question_of limits history (record { account = account; command = command; moment = moment }))) → IsSettledWith history (record { account = account; command = command; moment = moment })
-settled-with limits history account moment (Prepare oracle question slots) is so_far none =
+settled-with limits history account moment (Prepare oracle question slots) is matched so_far none =
     let act : Act = record { account = account; command = Prepare oracle question slots; moment = moment } in
     let b = book history in
     settled-same _ _ _ _ _ _ _ _ _ _ _ _ refl (sym (append-nil (reports history))) (sym (append-nil (postings history))) (omega arith) (omega arith)
     (settled-prepared (conditions history) (reports history) (postings history) (deposited history) (withdrawn history) (λ outcome. IsLawful (outlook_of (entered b act)) outcome) (λ outcome. HaveWinners outcome (entered b act).conversions)
     (record { oracle = oracle; question = question; slots = slots }) (right-of b is) (fewer b (deposited history) (withdrawn history) act so_far))
-settled-with limits history account moment (Event oracle questions fee) is so_far none =
+settled-with limits history account moment (Event oracle questions fee) is matched so_far none =
     let act : Act = record { account = account; command = Event oracle questions fee; moment = moment } in
     let b = book history in
     settled-same _ _ _ _ _ _ _ _ _ _ _ _ refl (sym (append-nil (reports history))) (sym (append-nil (postings history))) (omega arith) (omega arith)
     (settled-all (conditions history) (reports history) (postings history) (deposited history) (withdrawn history) (λ outcome. IsLawful (outlook_of (entered b act)) outcome) (λ outcome. HaveWinners outcome (entered b act).conversions)
     (questions_from (length (events history)) 0 questions) (right-of b is) (fewer b (deposited history) (withdrawn history) act so_far))
-settled-with limits history account moment (Report condition payouts) is so_far none = reported-more limits history account moment condition payouts is so_far none
-settled-with limits history account moment command is so_far none = posted limits history (record { account = account; command = command; moment = moment }) is so_far refl refl none
+settled-with limits history account moment (Report condition payouts) is matched so_far none = reported-more limits history account moment condition payouts is so_far none
+settled-with limits history account moment command is matched so_far none = posted limits history (record { account = account; command = command; moment = moment }) is matched so_far refl refl none
 
-settled-more : (limits : Bounds) (history : List Act) (act : Act) → IsOrderlyBy history → IsSettledBy history → IsAccepted limits history act → IsSettledBy (history ++ act ∷ [])
-settled-more limits history act is so_far accepted =
+settled-more : (limits : Bounds) (history : List Act) (act : Act) → IsOrderlyBy history → AreTraded history → IsSettledBy history → IsAccepted limits history act → IsSettledBy (history ++ act ∷ [])
+settled-more limits history act is trades so_far accepted =
+    let none = earlier-none (question_of limits history act) accepted.accepted in
+    let matched = accepted-match limits history act.account act.moment act.command trades (act-ranges act.command accepted.may_be_act) none in
     subst (λ (b : Book). IsSettledOf b (deposited (history ++ act ∷ [])) (withdrawn (history ++ act ∷ []))) (sym (book-more history act))
     (subst (λ (paid_in : ℕ). IsSettledOf (entered (book history) act) paid_in (withdrawn (history ++ act ∷ []))) (sym (deposited-more history act))
     (subst (λ (paid_out : ℕ). IsSettledOf (entered (book history) act) (deposited history + deposit_of act.command) paid_out) (sym (withdrawn-more history act))
-    (settled-with limits history act.account act.moment act.command is so_far (earlier-none (question_of limits history act) accepted.accepted))))
+    (settled-with limits history act.account act.moment act.command is matched so_far none)))
 
--- both go on together
-both : (limits : Bounds) (history : List Act) → IsLegal limits history → IsOrderlyBy history × IsSettledBy history
-both limits history legal =
-    legal-all limits (λ h. IsOrderlyBy h × IsSettledBy h) (orderly-start, settled-start _ _)
-    (λ h act so_far accepted. (orderly-more limits h act so_far.0 accepted, settled-more limits h act so_far.0 so_far.1 accepted)) history legal
+-- what holds of a legal history: the three go on together
+record Holds (history : List Act) : Type 0 where
+  pub orderly : IsOrderlyBy history
+  pub trades : AreTraded history
+  pub settled : IsSettledBy history
+
+sound : (limits : Bounds) (history : List Act) → IsLegal limits history → Holds history
+sound limits history legal =
+    legal-all limits Holds (record { orderly = orderly-start; trades = traded-start; settled = settled-start _ _ })
+    (λ h act so_far accepted. record {
+      orderly = orderly-more limits h act so_far.orderly accepted;
+      trades = traded-more limits h act so_far.trades accepted;
+      settled = settled-more limits h act so_far.orderly so_far.trades so_far.settled accepted;
+    }) history legal
 
 pub settled : (limits : Bounds) (history : List Act) → IsLegal limits history → IsSettledBy history
-settled limits history legal = (both limits history legal).1
+settled limits history legal = (sound limits history legal).settled
 
 -- ---- what follows
 
@@ -294,11 +308,11 @@ times-le x y d some le =
 -- no more was paid out of the vault than into it
 pub paid-out : (limits : Bounds) (history : List Act) → IsLegal limits history → withdrawn history ≤ deposited history
 paid-out limits history legal =
-    let all = both limits history legal in
+    let all = sound limits history legal in
     let v : Pairs → ℕ = worth (results history) (standing (answers history)) in
     let d = denominator (results history) in
-    let within = all.1.within (standing (answers history)) (standing-lawful (book history) all.0) in
-    times-le (withdrawn history) (deposited history) d (den-some (book history) all.0) (omega (arith, within, taken-within v (postings history) all.1.above))
+    let within = all.settled.within (standing (answers history)) (standing-lawful (book history) all.orderly) in
+    times-le (withdrawn history) (deposited history) d (den-some (book history) all.orderly) (omega (arith, within, taken-within v (postings history) all.settled.above))
 
 -- what the vault holds is what was paid in beyond what was paid out
 vault-parts : (paid_in paid_out d : ℕ) → paid_out ≤ paid_in → paid_in * d ≡ paid_out * d + (paid_in - paid_out) * d
@@ -310,7 +324,7 @@ vault-parts paid_in paid_out d less =
 each-converted : (limits : Bounds) (history : List Act) (outcome : Outcome) → IsLegal limits history → HaveWinners outcome (outlook history).events → HaveWinners outcome (conversions history)
 each-converted limits history outcome legal won =
     All-weaker (Contains (questions_of (events history))) (λ (qs : List ℕ). winners outcome qs ≡ 1) (λ qs has. All-contains (λ (x : List ℕ). winners outcome x ≡ 1) (questions_of (events history)) qs won has)
-    (conversions history) (both limits history legal).0.converted
+    (conversions history) (sound limits history legal).orderly.converted
 
 -- the vault covers all holdings at each lawful outcome, and exactly before any report where one question of each event wins
 pub can-pay : (limits : Bounds) (history : List Act) → IsLegal limits history → CanPay history
@@ -325,7 +339,7 @@ can-pay limits history legal =
 
 -- there is a lawful outcome
 pub possible : (limits : Bounds) (history : List Act) → IsLegal limits history → (outcome : Outcome) × IsLawful (outlook history) outcome
-possible limits history legal = (standing (answers history), standing-lawful (book history) (both limits history legal).0)
+possible limits history legal = (standing (answers history), standing-lawful (book history) (sound limits history legal).orderly)
 
 -- what all holdings are worth is balance times worth over the positions that hold anything
 pub held : (limits : Bounds) (history : List Act) (value : Pairs → ℕ) (positions : List (ℕ × Pairs)) → IsLegal limits history → AreEntries (balance history) positions
@@ -394,8 +408,8 @@ cash-within b paid_in paid_out orderly is =
 -- the cash of all accounts together is within the vault
 pub cash : (limits : Bounds) (history : List Act) → IsLegal limits history → supply history root ≤ vault history
 cash limits history legal =
-    let all = both limits history legal in
-    omega (arith, cash-within (book history) _ _ all.0 all.1, paid-out limits history legal)
+    let all = sound limits history legal in
+    omega (arith, cash-within (book history) _ _ all.orderly all.settled, paid-out limits history legal)
 
 -- the vault of a legal history is within its limit
 vault-bound : (limits : Bounds) (history : List Act) → IsLegal limits history → vault history ≤ MAX_AMOUNT
@@ -431,10 +445,11 @@ pub cash-fits : (q : Question) (supplied : ℕ) → IsLegal q.limits q.history �
     → is_above_supply (supply q.history) (postings_of (book q.history) q.account q.command) root ≡ false
 cash-fits q supplied legal ranges is =
     let none = earlier-of-supply q supplied is in
-    let all = both q.limits q.history legal in
+    let all = sound q.limits q.history legal in
     let act : Act = record { account = q.account; command = q.command; moment = q.moment } in
-    let more = settled-with q.limits q.history q.account q.moment q.command all.0 all.1 none in
-    let orderly = orderly-with q.limits q.history q.account q.moment q.command all.0 ranges none in
+    let matched = accepted-match q.limits q.history q.account q.moment q.command all.trades ranges none in
+    let more = settled-with q.limits q.history q.account q.moment q.command all.orderly matched all.settled none in
+    let orderly = orderly-with q.limits q.history q.account q.moment q.command all.orderly ranges none in
     let ps = postings q.history in
     let qs = postings_of (book q.history) q.account q.command in
     let within = cash-within (entered (book q.history) act) _ _ orderly more in

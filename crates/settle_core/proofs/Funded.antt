@@ -13,7 +13,7 @@ use Rattle.collection_keys.specs.Collections.{Pairs, joined, part, root}
 use Rattle.collection_keys.specs.Comparing.{same_collection}
 use Rattle.command_words.specs.declared.act.Act.{Act}
 use Rattle.command_words.specs.declared.command.Command.{Command}
-use Rattle.command_words.specs.declared.command.Command.TheVariants.{Deposit, Withdraw, Move, Split, Merge, Redeem, Convert}
+use Rattle.command_words.specs.declared.command.Command.TheVariants.{Deposit, Withdraw, Move, Split, Merge, Redeem, Convert, Match}
 use Rattle.condition_sets.specs.Sets.{IsProper, AreApart}
 use Rattle.condition_sets.specs.declared.names.TheConstants.{OPERATOR}
 use Rattle.convert_positions.specs.Converting.{cash_of, chosen, chosen_from, fee_of, no_of, others, out_of, paid_for, short_from, short_question, yes_of}
@@ -22,15 +22,20 @@ use Rattle.event_table.specs.Events.{AreDistinct, EventView}
 use Rattle.ledger_book.specs.Planning.{first_short}
 use Rattle.ledger_book.specs.Postings.{IsFunded, credit, debit, debits, taken_from_account}
 use Rattle.ledger_book.specs.declared.posting.Posting.{Posting}
+use Rattle.match_kinds.proofs.Covered.{match-covered}
+use Rattle.order_table.specs.declared.order.Placed.{Placed}
 use Rattle.split_merge.proofs.Apart.{same_set, untaken_at}
 use Rattle.split_merge.specs.Splitting.{merge_postings, parts_of, split_postings}
 use Rattle.settle_core.specs.Book.{Book, Payouts, answers, book, conditions, conversions, converted_in, events, held_in, postings_of, redeemed_in, reports, told}
 use Rattle.settle_core.specs.Bounds.{Bounds}
 use Rattle.settle_core.specs.Keys.{whole_in}
+use Rattle.settle_core.specs.Matches.{matched_in, part_of, parts_in}
+use Rattle.settle_core.specs.Orders.{placed}
 use Rattle.settle_core.specs.Postings.{balance}
 use Rattle.report_redeem.proofs.Redemptions.{redeemed-funded}
-use Rattle.settle_core.specs.Refusals.{Question}
+use Rattle.settle_core.specs.Refusals.{Question, unfunded_in}
 use Rattle.condition_table.specs.declared.facts.Facts.{Facts}
+use Rattle.settle_core.proofs.Matched.{IsMatched}
 use Rattle.settle_core.proofs.Orderly.{IsOrderly, IsOrderlyBy, event-distinct}
 use Rattle.settle_core.proofs.Partitions.{IsPartition, accepted-merge}
 use Rattle.settle_core.proofs.Verdicts.{AreNone, earlier, accepted-funds}
@@ -268,26 +273,33 @@ conversion-funded held cs rs ans es vs a e set amount is None at none = none-pos
 conversion-funded held cs rs ans es vs a e set amount is (Some event) at none = converted-funded held a set amount event (event-distinct cs rs ans es vs e event is at) none
 
 -- every command that no refusal below that of a supply meets
-pub funded-by : (limits : Bounds) (history : List Act) (account moment : ℕ) (command : Command) → IsOrderlyBy history
+pub funded-by : (limits : Bounds) (history : List Act) (account moment : ℕ) (command : Command) → IsOrderlyBy history → IsMatched history command
     → AreNone (earlier (record { limits = limits; history = history; account = account; command = command; moment = moment }))
     → IsFunded (balance history) (postings_of (book history) account command)
-funded-by limits history account moment (Deposit to amount) is none = λ b k. omega (arith, untaken-credits to amount (root ∷ []) b k)
-funded-by limits history account moment (Withdraw amount) is none =
+funded-by limits history account moment (Deposit to amount) is matched none = λ b k. omega (arith, untaken-credits to amount (root ∷ []) b k)
+funded-by limits history account moment (Withdraw amount) is matched none =
     let q : Question = record { limits = limits; history = history; account = account; command = Withdraw amount; moment = moment } in
     split-funded (balance history) account amount root [] (one-there (balance history account) amount root (accepted-funds q none))
-funded-by limits history account moment (Move to key amount) is none =
+funded-by limits history account moment (Move to key amount) is matched none =
     let q : Question = record { limits = limits; history = history; account = account; command = Move to key amount; moment = moment } in
     move-funded (balance history) account to amount key (one-there (balance history account) amount key (accepted-funds q none))
-funded-by limits history account moment (Split parent condition sets amount) is none =
+funded-by limits history account moment (Split parent condition sets amount) is matched none =
     let q : Question = record { limits = limits; history = history; account = account; command = Split parent condition sets amount; moment = moment } in
     let whole = whole_in (conditions history) parent condition sets in
     split-funded (balance history) account amount whole (parts_of parent condition sets) (one-there (balance history account) amount whole (accepted-funds q none))
-funded-by limits history account moment (Merge parent condition sets amount) is none =
+funded-by limits history account moment (Merge parent condition sets amount) is matched none =
     let q : Question = record { limits = limits; history = history; account = account; command = Merge parent condition sets amount; moment = moment } in
     merge-funded (balance history) (conditions history) account amount (whole_in (conditions history) parent condition sets) parent condition sets
     (accepted-merge limits history account moment parent condition sets amount none) (accepted-funds q none)
-funded-by limits history account moment (Redeem parent condition sets) is none = redeem-funded (book history) account parent condition sets (told history condition)
-funded-by limits history account moment (Convert event set amount) is none =
+funded-by limits history account moment (Redeem parent condition sets) is matched none = redeem-funded (book history) account parent condition sets (told history condition)
+funded-by limits history account moment (Convert event set amount) is matched none =
     let q : Question = record { limits = limits; history = history; account = account; command = Convert event set amount; moment = moment } in
     conversion-funded (balance history) (conditions history) (reports history) (answers history) (events history) (conversions history) account event set amount is (slice_get (events history) event) refl (accepted-funds q none)
-funded-by limits history account moment command is none = none-posted (balance history)
+funded-by limits history account moment (Match taker fill makers) is matched none =
+    let q : Question = record { limits = limits; history = history; account = account; command = Match taker fill makers; moment = moment } in
+    let parts = parts_in (placed history) makers in
+    let order = matched.parts.order in
+    let none_short : unfunded_in (balance history) (Some order) fill parts ≡ None = sym (ap (λ (o : Option Placed). unfunded_in (balance history) o fill parts) matched.parts.at) ∙ accepted-funds q none in
+    subst (λ (o : Option Placed). IsFunded (balance history) (matched_in o fill parts)) (sym matched.parts.at)
+    (match-covered (balance history) order.market (part_of order fill) parts matched.parts.made.each none_short)
+funded-by limits history account moment command is matched none = none-posted (balance history)

@@ -1,22 +1,25 @@
 -- A supply is what all accounts hold together.
-use Rattle.std.proofs.Common.{Option, None, ◌≡◌, ◌==◌, ℕ, zero, suc, ◌+◌, ◌-◌, ◌^◌, ◌<◌, ◌≤◌, Bool, true, false, cond, List, [], ◌∷◌, ◌++◌, refl, sym, ap, ◌∙◌, arith, inl, inr}
+use Rattle.std.proofs.Common.{Option, None, subst, ◌≡◌, ◌==◌, ℕ, zero, suc, ◌+◌, ◌-◌, ◌^◌, ◌<◌, ◌≤◌, Bool, true, false, cond, List, [], ◌∷◌, ◌++◌, refl, sym, ap, ◌∙◌, arith, inl, inr}
 use Rattle.std.specs.Prelude.{All, ◌&&◌, fold, map, slice_get, Some, sum_by}
 use Rattle.std.proofs.lemmas.Bool.{cases_order, cond-true, cond-false}
 use Rattle.std.proofs.lemmas.Bool.Decides.{nat_tests}
 use Rattle.std.proofs.lemmas.List.Elements.{All-append, All-cons, All-head, All-nil, All-tail}
 use Rattle.std.proofs.lemmas.List.Sums.{sum_by-cons}
+use Rattle.std.proofs.lemmas.Option.{get_or_from_slice_get, slice_get_within}
 use Rattle.collection_keys.specs.Collections.{Pairs, joined, root}
 use Rattle.command_words.proofs.Acts.{act-ranges}
 use Rattle.command_words.specs.Command.{in_ranges, may_be_act}
 use Rattle.command_words.specs.Ranges.{is_account, is_amount, is_key}
 use Rattle.command_words.specs.declared.act.Act.{Act}
 use Rattle.command_words.specs.declared.command.Command.{Command}
-use Rattle.command_words.specs.declared.command.Command.TheVariants.{Deposit, Withdraw, Move, Split, Merge, Redeem, Convert}
+use Rattle.command_words.specs.declared.command.Command.TheVariants.{Deposit, Withdraw, Move, Split, Merge, Redeem, Convert, Match, Place}
 use Rattle.condition_sets.specs.declared.names.TheConstants.{OPERATOR}
 use Rattle.convert_positions.specs.Converting.{cash_of, chosen, fee_of, no_of, others, out_of, paid_for, yes_of}
 use Rattle.event_table.specs.Events.{EventView}
 use Rattle.ledger_book.specs.Postings.{credit, debit, credits, debits, paid_to, taken_from}
 use Rattle.ledger_book.specs.declared.posting.Posting.{Posting}
+use Rattle.match_kinds.specs.declared.part.Part.{Part}
+use Rattle.order_table.specs.declared.order.Placed.{Placed}
 use Rattle.report_redeem.specs.Redeeming.{Redeemed, postings_for, redeemed}
 use Rattle.split_merge.specs.Splitting.{parts_of}
 use Rattle.std.specs.List.{flat_map}
@@ -24,9 +27,12 @@ use Rattle.settle_core.specs.Book.{Book, blank, converted_in, entered, held_in, 
 use Rattle.settle_core.specs.Bounds.{Bounds}
 use Rattle.settle_core.specs.Keys.{whole_in}
 use Rattle.settle_core.specs.Legal.{IsLegal}
+use Rattle.settle_core.specs.Matches.{matched_in, part_by, part_of, parts_in}
+use Rattle.settle_core.specs.Placing.{placed_by}
 use Rattle.settle_core.specs.Postings.{supply, over_accounts, held_by_all}
 use Rattle.settle_core.proofs.Coverage.{settled}
 use Rattle.settle_core.proofs.Histories.{legal-acts}
+use Rattle.settle_core.proofs.Matched.{matched-each}
 
 -- ---- sums over accounts
 
@@ -134,28 +140,56 @@ conversion-of a set amount (Some event) fits =
     taken [] = none-of
     taken (d ∷ ds) = one-of (debit a (no_of d) amount) _ fits (taken ds)
 
-posts-of-account : (b : Book) (a : ℕ) (command : Command) → a < 2 ^ 16 → in_ranges command ≡ true → AreOfAccounts (postings_of b a command)
-posts-of-account b a (Deposit to amount) fits ranges = one-of (credit to root amount) [] (account-within to (first_true (is_account to) (is_amount amount) ranges)) none-of
-posts-of-account b a (Split parent condition sets amount) fits ranges =
+-- orders of such accounts, and what is posted to them
+abbrev AreByAccounts : List Placed → Type 0
+AreByAccounts orders = All (λ o. o.account < 2 ^ 16) orders
+
+placed-of : (a : ℕ) (command : Command) → a < 2 ^ 16 → AreByAccounts (placed_by a command)
+placed-of a (Place market set side making taking expires nonce fee) fits = All-cons (λ (o : Placed). o.account < 2 ^ 16) _ [] fits (All-nil (λ (o : Placed). o.account < 2 ^ 16))
+placed-of a command fits = All-nil (λ (o : Placed). o.account < 2 ^ 16)
+
+order-of : (orders : List Placed) (n : ℕ) (order : Placed) → AreByAccounts orders → slice_get orders n ≡ Some order → order.account < 2 ^ 16
+order-of orders n order by at =
+    subst (λ (o : Placed). o.account < 2 ^ 16) (get_or_from_slice_get orders n order order at) (by n order (slice_get_within orders n order at))
+
+made-of : (orders : List Placed) (makers : List (ℕ × ℕ)) → AreByAccounts orders → All (λ m. m.account < 2 ^ 16) (parts_in orders makers)
+made-of orders [] fits = All-nil (λ (m : Part). m.account < 2 ^ 16)
+made-of orders (m ∷ ms) fits = by (slice_get orders m.0) refl (made-of orders ms fits)
+  where
+    by : (o : Option Placed) → slice_get orders m.0 ≡ o → All (λ p. p.account < 2 ^ 16) (parts_in orders ms) → All (λ p. p.account < 2 ^ 16) (part_by o m.1 ++ parts_in orders ms)
+    by None at rest = rest
+    by (Some order) at rest = All-cons (λ (p : Part). p.account < 2 ^ 16) (part_of order m.1) (parts_in orders ms) (order-of orders m.0 order fits at) rest
+
+match-of : (orders : List Placed) (taker fill : ℕ) (makers : List (ℕ × ℕ)) (o : Option Placed) → AreByAccounts orders → slice_get orders taker ≡ o → AreOfAccounts (matched_in o fill (parts_in orders makers))
+match-of orders taker fill makers None fits at = none-of
+match-of orders taker fill makers (Some order) fits at =
+    matched-each (λ (p : Posting). p.account < 2 ^ 16) (λ a. a < 2 ^ 16) order.market (λ a side token amount of. (of, of)) (part_of order fill) (parts_in orders makers)
+    (omega arith) (order-of orders taker order fits at) (made-of orders makers fits)
+
+posts-of-account : (b : Book) (a : ℕ) (command : Command) → a < 2 ^ 16 → in_ranges command ≡ true → AreByAccounts b.placed → AreOfAccounts (postings_of b a command)
+posts-of-account b a (Deposit to amount) fits ranges orders = one-of (credit to root amount) [] (account-within to (first_true (is_account to) (is_amount amount) ranges)) none-of
+posts-of-account b a (Split parent condition sets amount) fits ranges orders =
     one-of (debit a (whole_in b.conditions parent condition sets) amount) _ fits (credits-of a amount (parts_of parent condition sets) fits)
-posts-of-account b a (Merge parent condition sets amount) fits ranges =
+posts-of-account b a (Merge parent condition sets amount) fits ranges orders =
     debits-of a amount (parts_of parent condition sets) _ fits (one-of (credit a (whole_in b.conditions parent condition sets) amount) [] fits none-of)
-posts-of-account b a (Withdraw amount) fits ranges = one-of (debit a root amount) [] fits none-of
-posts-of-account b a (Move to key amount) fits ranges =
+posts-of-account b a (Withdraw amount) fits ranges orders = one-of (debit a root amount) [] fits none-of
+posts-of-account b a (Move to key amount) fits ranges orders =
     one-of (debit a key amount) (credit to key amount ∷ []) fits (one-of (credit to key amount) [] (account-within to (first_true (is_account to) (is_key key && is_amount amount) ranges)) none-of)
-posts-of-account b a (Redeem parent condition sets) fits ranges = redemption-of b a parent condition sets (told_on b condition) fits
-posts-of-account b a (Convert event set amount) fits ranges = conversion-of a set amount (slice_get b.events event) fits
-posts-of-account b a command fits ranges = none-of
+posts-of-account b a (Redeem parent condition sets) fits ranges orders = redemption-of b a parent condition sets (told_on b condition) fits
+posts-of-account b a (Convert event set amount) fits ranges orders = conversion-of a set amount (slice_get b.events event) fits
+posts-of-account b a (Match taker fill makers) fits ranges orders = match-of b.placed taker fill makers (slice_get b.placed taker) orders refl
+posts-of-account b a command fits ranges orders = none-of
 
 abbrev MayBeActs : List Act → Type 0
 MayBeActs acts = All (λ act. may_be_act act.command ≡ true) acts
 
-all-of-accounts : (acts : List Act) (b : Book) → MayBeActs acts → All (λ act. is_account act.account ≡ true) acts → AreOfAccounts b.postings → AreOfAccounts (fold entered b acts).postings
-all-of-accounts [] b askable fits so_far = so_far
-all-of-accounts (act ∷ acts) b askable fits so_far =
+all-of-accounts : (acts : List Act) (b : Book) → MayBeActs acts → All (λ act. is_account act.account ≡ true) acts → AreByAccounts b.placed → AreOfAccounts b.postings → AreOfAccounts (fold entered b acts).postings
+all-of-accounts [] b askable fits orders so_far = so_far
+all-of-accounts (act ∷ acts) b askable fits orders so_far =
     let here = account-within act.account (All-head (λ (x : Act). is_account x.account ≡ true) act acts fits) in
-    let posts = posts-of-account b act.account act.command here (act-ranges act.command (All-head (λ (x : Act). may_be_act x.command ≡ true) act acts askable)) in
+    let posts = posts-of-account b act.account act.command here (act-ranges act.command (All-head (λ (x : Act). may_be_act x.command ≡ true) act acts askable)) orders in
     all-of-accounts acts (entered b act) (All-tail (λ (x : Act). may_be_act x.command ≡ true) act acts askable) (All-tail (λ (x : Act). is_account x.account ≡ true) act acts fits)
+    (All-append (λ (o : Placed). o.account < 2 ^ 16) b.placed (placed_by act.account act.command) orders (placed-of act.account act.command here))
     (All-append (λ (p : Posting). p.account < 2 ^ 16) b.postings (postings_of b act.account act.command) so_far posts)
 
 -- ---- the law
@@ -168,5 +202,5 @@ over-difference (suc n) f g within = omega (arith, over-difference n f g within,
 pub supply-held : (limits : Bounds) (history : List Act) (k : Pairs) → IsLegal limits history → All (λ act. is_account act.account ≡ true) history → held_by_all history k ≡ supply history k
 supply-held limits history k legal fits =
     let ps = postings history in
-    let within = all-of-accounts history blank (legal-acts limits history legal) fits (All-nil (λ (p : Posting). p.account < 2 ^ 16)) in
+    let within = all-of-accounts history blank (legal-acts limits history legal) fits (All-nil (λ (o : Placed). o.account < 2 ^ 16)) (All-nil (λ (p : Posting). p.account < 2 ^ 16)) in
     omega (arith, over-postings (2 ^ 16) (paid_to k) ps within, over-postings (2 ^ 16) (taken_from k) ps within, over-difference (2 ^ 16) (λ a. credits ps a k) (λ a. debits ps a k) (λ a. omega (arith, (settled limits history legal).above a k)))

@@ -1,8 +1,11 @@
 -- What one act more does to a history.
-use Rattle.std.proofs.Common.{◌≡◌, ℕ, ◌+◌, ◌<◌, List, [], ◌∷◌, ◌++◌, length, take, get_or, Some, true, sym, ◌∙◌, ap, subst, inl, inr, arith, length-append}
-use Rattle.std.specs.Prelude.{slice_get, sum_by, All}
+use Rattle.std.proofs.Common.{◌≡◌, ℕ, ◌+◌, ◌<◌, List, [], ◌∷◌, ◌++◌, length, take, get_or, Some, true, sym, ◌∙◌, ap, subst, inl, inr, arith, length-append, append-nil}
+use Rattle.std.specs.Prelude.{◌==◌, ◌||◌, slice_get, sum_by, All}
+use Rattle.std.specs.List.{flat_map, list_any}
 use Rattle.std.proofs.lemmas.Bool.{cases_lt}
 use Rattle.std.proofs.lemmas.List.{get_or_append_left, take-append-le}
+use Rattle.std.proofs.lemmas.Grind.{flat_map-append}
+use Rattle.std.proofs.lemmas.List.Folds.{list_any-append}
 use Rattle.std.proofs.lemmas.List.Sums.{fold-append, sum_by_push, sum_by-append}
 use Rattle.std.proofs.lemmas.Option.{slice_get_within, slice_get-get_or}
 use Rattle.std.proofs.Math.Seq.{get_or-append_seam, take-append_seam}
@@ -12,6 +15,8 @@ use Rattle.settle_core.specs.Bounds.{Bounds}
 use Rattle.settle_core.specs.Legal.{IsAccepted, IsLegal}
 use Rattle.ledger_book.specs.declared.posting.Posting.{Posting}
 use Rattle.settle_core.specs.Book.{Book, answered_by, answers, blank, book, conditions, entered, events, events_after, numerators_on, postings, postings_of, prepared_by, reported_by, reports, told}
+use Rattle.settle_core.specs.Orders.{is_market, opened_by, placed}
+use Rattle.settle_core.specs.Placing.{placed_by}
 use Rattle.settle_core.specs.Postings.{deposit_of, deposited, withdrawal_of, withdrawn}
 
 -- the value in a Some
@@ -66,6 +71,15 @@ conditions-more history act = ap (λ (b : Book). b.conditions) (book-more histor
 -- and is entered into the events
 pub events-more : (history : List Act) (act : Act) → events (history ++ act ∷ []) ≡ events_after (length (conditions history)) (events history) act.command
 events-more history act = ap (λ (b : Book). b.events) (book-more history act)
+
+-- an act more places its order behind the others, and opens its market
+pub placed-more : (history : List Act) (act : Act) → placed (history ++ act ∷ []) ≡ placed history ++ placed_by act.account act.command
+placed-more history act = ap (λ (b : Book). b.placed) (book-more history act)
+
+pub market-more : (history : List Act) (act : Act) (c : ℕ) → is_market (history ++ act ∷ []) c ≡ (is_market history c || list_any (λ market. market == c) (opened_by act.command))
+market-more history act c =
+    ap (list_any (λ market. market == c)) (flat_map-append (λ (x : Act). opened_by x.command) history (act ∷ []) ∙ ap (λ (more : List ℕ). flat_map (λ (x : Act). opened_by x.command) history ++ more) (append-nil (opened_by act.command)))
+    ∙ list_any-append (λ market. market == c) (flat_map (λ (x : Act). opened_by x.command) history) (opened_by act.command)
 
 -- an act more tells behind what was told
 pub told-more : (history : List Act) (act : Act) → told (history ++ act ∷ []) ≡ numerators_on ((reports history ++ reported_by act.command) ++ (answers history ++ answered_by (events history) act.command))

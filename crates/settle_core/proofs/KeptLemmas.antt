@@ -26,7 +26,8 @@ use Rattle.settle_core.specs.Postings.{deposit_of, withdrawal_of, balance, suppl
 use Rattle.settle_core.specs.Exchange.{AreChangesOf, vault_change}
 use Rattle.settle_core.specs.declared.changes.Changes.{Changes}
 use Rattle.condition_table.specs.Conditions.{ConditionsView, numerators_at}
-use Rattle.settle_core.specs.Refusals.{where_, is_above_entries}
+use Rattle.settle_core.specs.OrderRules.{where_}
+use Rattle.settle_core.specs.Refusals.{is_above_entries}
 use Rattle.settle_core.specs.Verdict.{question_of, first_some}
 use Rattle.command_words.specs.declared.act.TheConstants.{MAX_HISTORY}
 use Rattle.command_words.proofs.Acts.{act-makes, act-ranges}

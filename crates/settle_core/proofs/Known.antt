@@ -16,15 +16,21 @@ use Rattle.ledger_book.specs.Postings.{credit, debit}
 use Rattle.ledger_book.specs.declared.posting.Posting.{Posting}
 use Rattle.command_words.specs.declared.act.Act.{Act}
 use Rattle.command_words.specs.declared.command.Command.{Command}
-use Rattle.command_words.specs.declared.command.Command.TheVariants.{Deposit, Withdraw, Move, Split, Merge, Redeem, Convert}
+use Rattle.command_words.specs.declared.command.Command.TheVariants.{Deposit, Withdraw, Move, Split, Merge, Redeem, Convert, Match}
 use Rattle.condition_sets.specs.declared.partition.Union.{Union}
 use Rattle.condition_sets.specs.declared.partition.Union.TheVariants.{Full, Part}
+use Rattle.match_kinds.specs.Matching.{pays_in}
+use Rattle.order_rules.specs.declared.side.Side.{Side}
+use Rattle.order_rules.specs.declared.side.Side.TheVariants.{Buy, Sell}
+use Rattle.order_rules.specs.declared.token.Token.{Token}
+use Rattle.order_rules.specs.declared.token.Token.TheVariants.{Yes, No}
 use Rattle.report_redeem.specs.Redeeming.{Redeemed, postings_for, redeemed}
 use Rattle.split_merge.specs.Splitting.{whole_of}
 use Rattle.settle_core.specs.Book.{Book, answers, book, conditions, conversions, converted_in, events, held_in, postings_of, redeemed_in, reports, told}
 use Rattle.settle_core.specs.Bounds.{Bounds}
 use Rattle.settle_core.specs.Keys.{is_unprepared, key_is_unprepared, union_in, whole_in}
 use Rattle.settle_core.specs.Refusals.{Question}
+use Rattle.settle_core.proofs.Matched.{IsMatched, each-posted, market-within}
 use Rattle.settle_core.proofs.Orderly.{IsOrderlyBy, event-known}
 use Rattle.settle_core.proofs.Verdicts.{AreNone, earlier, accepted-prepared}
 
@@ -125,37 +131,48 @@ known-whole prepared parent condition sets inside known = by (union_in prepared 
     by Full = known
     by (Part set) = known-joined (length prepared) parent condition set inside known
 
+-- what a part of a match pays, in a market that is prepared
+known-paid_in : (n market : ℕ) (side : Side) (token : Token) → market < n → IsKnown n (pays_in market side token)
+known-paid_in n market Buy token inside = known-root n
+known-paid_in n market Sell Yes inside = known-joined n root market 1 inside (known-root n)
+known-paid_in n market Sell No inside = known-joined n root market 2 inside (known-root n)
+
 -- what an accepted command posts
-pub known-posted : (limits : Bounds) (history : List Act) (account moment : ℕ) (command : Command) → IsOrderlyBy history
+pub known-posted : (limits : Bounds) (history : List Act) (account moment : ℕ) (command : Command) → IsOrderlyBy history → IsMatched history command
     → AreNone (earlier (record { limits = limits; history = history; account = account; command = command; moment = moment }))
     → AreKnown (length (conditions history)) (postings_of (book history) account command)
-known-posted limits history account moment (Deposit to amount) is none = known-one _ (credit to root amount) [] (known-root _) (known-none _)
-known-posted limits history account moment (Withdraw amount) is none = known-one _ (debit account root amount) [] (known-root _) (known-none _)
-known-posted limits history account moment (Move to key amount) is none =
+known-posted limits history account moment (Deposit to amount) is matched none = known-one _ (credit to root amount) [] (known-root _) (known-none _)
+known-posted limits history account moment (Withdraw amount) is matched none = known-one _ (debit account root amount) [] (known-root _) (known-none _)
+known-posted limits history account moment (Move to key amount) is matched none =
     let q : Question = record { limits = limits; history = history; account = account; command = Move to key amount; moment = moment } in
     let there = or_parts (key_is_unprepared (conditions history) key) false (accepted-prepared q none) in
     let known = known-key (conditions history) key there.0 in
     let n = length (conditions history) in
     known-one n (debit account key amount) (credit to key amount ∷ []) known (known-one n (credit to key amount) [] known (known-none n))
-known-posted limits history account moment (Split parent condition sets amount) is none =
+known-posted limits history account moment (Split parent condition sets amount) is matched none =
     let q : Question = record { limits = limits; history = history; account = account; command = Split parent condition sets amount; moment = moment } in
     let there = or_parts (key_is_unprepared (conditions history) parent) (is_unprepared (conditions history) condition) (accepted-prepared q none) in
     let known = known-key (conditions history) parent there.0 in
     let inside : condition < length (conditions history) = leb-false _ _ there.1 in
     known-one _ (debit account (whole_in (conditions history) parent condition sets) amount) _ (known-whole (conditions history) parent condition sets inside known) (known-credits _ account amount parent condition sets inside known)
-known-posted limits history account moment (Merge parent condition sets amount) is none =
+known-posted limits history account moment (Merge parent condition sets amount) is matched none =
     let q : Question = record { limits = limits; history = history; account = account; command = Merge parent condition sets amount; moment = moment } in
     let there = or_parts (key_is_unprepared (conditions history) parent) (is_unprepared (conditions history) condition) (accepted-prepared q none) in
     let known = known-key (conditions history) parent there.0 in
     let inside : condition < length (conditions history) = leb-false _ _ there.1 in
     known-both _ _ _ (known-debits _ account amount parent condition sets inside known)
     (known-one _ (credit account (whole_in (conditions history) parent condition sets) amount) [] (known-whole (conditions history) parent condition sets inside known) (known-none _))
-known-posted limits history account moment (Redeem parent condition sets) is none =
+known-posted limits history account moment (Redeem parent condition sets) is matched none =
     let q : Question = record { limits = limits; history = history; account = account; command = Redeem parent condition sets; moment = moment } in
     let there = or_parts (key_is_unprepared (conditions history) parent) (is_unprepared (conditions history) condition) (accepted-prepared q none) in
     let known = known-key (conditions history) parent there.0 in
     let inside : condition < length (conditions history) = leb-false _ _ there.1 in
     known-redemption (book history) account parent condition sets (told history condition) inside known
-known-posted limits history account moment (Convert event set amount) is none =
+known-posted limits history account moment (Convert event set amount) is matched none =
     known-converted _ account set amount (slice_get (events history) event) (event-known (conditions history) (reports history) (answers history) (events history) (conversions history) event is)
-known-posted limits history account moment command is none = known-none _
+known-posted limits history account moment (Match taker fill makers) is matched none =
+    let n = length (conditions history) in
+    let market = matched.parts.order.market in
+    let known = λ (side : Side) (token : Token). known-paid_in n market side token (market-within history taker fill makers matched) in
+    each-posted history (λ (p : Posting). IsKnown n p.collection) taker fill makers matched (λ a side token amount. (known side token, known side token))
+known-posted limits history account moment command is matched none = known-none _

@@ -1,6 +1,8 @@
 pub mod Coverage
 mod Entered
 mod EntryCounts
+pub mod Fair
+mod Filling
 mod Funded
 mod Held
 mod Histories
@@ -10,14 +12,18 @@ mod KeyLemmas
 mod Known
 mod Lists
 mod Lowest
+mod Markets
+mod Matched
 mod Moves
 mod Orderly
 mod Partings
+mod Parts
 mod Partitions
 mod Plans
 pub mod Posted
 mod Reported
 mod Settled
+mod Staging
 mod Trading
 mod Verdicts
 mod Zeros

@@ -1,14 +1,21 @@
 -- The first refusal that is there has the lowest number.
 use Rattle.std.proofs.Common.{◌≡◌, ℕ, ◌+◌, ◌<◌, ◌≤◌, List, [], ◌∷◌, ◌++◌, length, Option, Some, None, refl, subst, arith, zero, suc, Bool, true, false}
-use Rattle.std.specs.Prelude.{Contains, slice_index_or, option_map}
+use Rattle.std.specs.Prelude.{Contains, slice_index_or, option_map, ◌==◌, is_none}
+use Rattle.std.specs.List.{list_any}
+use Rattle.collection_keys.specs.Collections.{Pairs}
+use Rattle.command_words.specs.declared.command.Command.{Command}
+use Rattle.command_words.specs.declared.command.Command.TheVariants.{Match, Lapse, Place}
+use Rattle.order_table.specs.declared.order.OrderState.{OrderState}
+use Rattle.order_table.specs.declared.order.Placed.{Placed}
 use Rattle.command_words.specs.Refusal.{code_of}
 use Rattle.command_words.specs.declared.refusal.Refusal.{Refusal}
-use Rattle.command_words.specs.declared.refusal.Refusal.TheVariants.{NotAllowed, NoCondition, AlreadyPrepared, TableFull, BadSet, BadPartition, Held, TooDeep, AlreadyReported, BadPayouts, NotReported, NoEvent, Determined, NoMarket, NoOrder, NotOpen, OrderExpired, NonceOld, Unfunded, VaultLimit, SupplyLimit, EntriesLimit, HistoryFull}
+use Rattle.command_words.specs.declared.refusal.Refusal.TheVariants.{NotAllowed, NoCondition, AlreadyPrepared, TableFull, BadSet, BadPartition, Held, TooDeep, AlreadyReported, BadPayouts, NotReported, NoEvent, Determined, NoMarket, NoOrder, NotOpen, OrderExpired, NonceOld, SelfMatch, RepeatedOrder, WrongPair, NotCrossing, Overfill, Unfunded, ExchangeShort, TooLittle, Funded, VaultLimit, SupplyLimit, EntriesLimit, HistoryFull}
 use Rattle.ledger_book.specs.Staging.{oversupplied}
-use Rattle.settle_core.specs.Book.{book, conditions, events, postings_of}
-use Rattle.settle_core.specs.Orders.{nonce, orders}
+use Rattle.settle_core.specs.Book.{book, events, postings_of}
+use Rattle.settle_core.specs.OrderRules.{at_first, by_rule, by_taker, expired, never_placed, of_makers, or_else, orders_changed, orders_matched, orders_named, outdated, overfilled, own, repeated_from, repeats, shut, still_funded_by, still_paid, uncrossed, unpaired, where_}
+use Rattle.settle_core.specs.Orders.{nonce, order_state, placed}
 use Rattle.settle_core.specs.Postings.{balance, supply, vault}
-use Rattle.settle_core.specs.Refusals.{Question, where_, short_of, shut_by, winner_before}
+use Rattle.settle_core.specs.Refusals.{Question, expired_in, little_by, outdated_in, short_by, short_of, winner_before}
 use Rattle.settle_core.specs.Verdict.{first_some, refusals, verdict}
 use Rattle.settle_core.proofs.Verdicts.{AreNone, earlier, last}
 
@@ -31,10 +38,74 @@ numbered-each : {X : Type 0} (number : ℕ) (refusal : X → Refusal) → ((x : 
 numbered-each number refusal numbers None = tt
 numbered-each number refusal numbers (Some x) = numbers x
 
+-- so is what a rule says of the first order that it refuses, where it says so of each
+or-numbered : (number : ℕ) (o p : Option Refusal) → IsNumbered number o → IsNumbered number p → IsNumbered number (or_else o p)
+or-numbered number None p one other = other
+or-numbered number (Some x) p one other = one
+
+at_first-numbered : (number : ℕ) (known : ℕ → Option OrderState) (rule : ℕ → ℕ → OrderState → Option Refusal) → ((place fill : ℕ) (order : OrderState) → IsNumbered number (rule place fill order))
+    → (place : ℕ) (named : List (ℕ × ℕ)) → IsNumbered number (at_first known rule place named)
+at_first-numbered number known rule each place [] = tt
+at_first-numbered number known rule each place (n ∷ ns) =
+    or-numbered number (by_rule rule place n.1 (known n.0)) (at_first known rule (suc place) ns) (by (known n.0)) (at_first-numbered number known rule each (suc place) ns)
+  where
+    by : (o : Option OrderState) → IsNumbered number (by_rule rule place n.1 o)
+    by None = tt
+    by (Some order) = each place n.1 order
+
+of_makers-numbered : (number : ℕ) (known : ℕ → Option OrderState) (rule : Placed → ℕ → ℕ → OrderState → Option Refusal) → ((taker : Placed) (place fill : ℕ) (order : OrderState) → IsNumbered number (rule taker place fill order))
+    → (command : Command) → IsNumbered number (of_makers known rule command)
+of_makers-numbered number known rule each (Match taker fill makers) = by (known taker)
+  where
+    by : (o : Option OrderState) → IsNumbered number (by_taker known rule o makers)
+    by None = tt
+    by (Some order) = at_first-numbered number known (rule order.placed) (each order.placed) 1 makers
+of_makers-numbered number known rule each command = tt
+
+unplaced-numbered : (known : ℕ → Option OrderState) (place : ℕ) (named : List (ℕ × ℕ)) → IsNumbered 19 (never_placed known place named)
+unplaced-numbered known place [] = tt
+unplaced-numbered known place (n ∷ ns) =
+    or-numbered 19 (where_ (is_none (known n.0)) (NoOrder place)) (never_placed known (suc place) ns) (where_-numbered (is_none (known n.0)) (NoOrder place)) (unplaced-numbered known (suc place) ns)
+
+repeated-numbered : (earlier : List (ℕ × ℕ)) (place : ℕ) (named : List (ℕ × ℕ)) → IsNumbered 24 (repeated_from earlier place named)
+repeated-numbered earlier place [] = tt
+repeated-numbered earlier place (n ∷ ns) =
+    or-numbered 24 (where_ (list_any (λ (e : ℕ × ℕ). e.0 == n.0) earlier) (RepeatedOrder place)) (repeated_from (earlier ++ n ∷ []) (suc place) ns)
+    (where_-numbered (list_any (λ (e : ℕ × ℕ). e.0 == n.0) earlier) (RepeatedOrder place)) (repeated-numbered (earlier ++ n ∷ []) (suc place) ns)
+
+repeats-numbered : (command : Command) → IsNumbered 24 (repeats command)
+repeats-numbered (Match taker fill makers) = repeated-numbered [] 1 makers
+repeats-numbered command = tt
+
+expired-numbered : (known : ℕ → Option OrderState) (now : ℕ) (command : Command) → IsNumbered 21 (expired_in known now command)
+expired-numbered known now (Place market set side making taking expires nonce fee) = where_-numbered _ (OrderExpired 0)
+expired-numbered known now (Match taker fill makers) = at_first-numbered 21 known (expired now) (λ place fill order. where_-numbered _ (OrderExpired place)) 0 ((taker, fill) ∷ makers)
+expired-numbered known now command = tt
+
+outdated-numbered : (known : ℕ → Option OrderState) (nonces : ℕ → ℕ) (account : ℕ) (command : Command) → IsNumbered 22 (outdated_in known nonces account command)
+outdated-numbered known nonces account (Place market set side making taking expires nonce fee) = where_-numbered _ (NonceOld (nonces account) 0)
+outdated-numbered known nonces account (Match taker fill makers) =
+    at_first-numbered 22 known (outdated nonces) (λ place fill order. where_-numbered _ (NonceOld (nonces order.placed.account) place)) 0 ((taker, fill) ∷ makers)
+outdated-numbered known nonces account command = tt
+
+funded-numbered : (known : ℕ → Option OrderState) (nonces : ℕ → ℕ) (now : ℕ) (held : ℕ → Pairs → ℕ) (command : Command) → IsNumbered 31 (still_funded_by known nonces now held command)
+funded-numbered known nonces now held (Lapse order) = by (known order)
+  where
+    by : (o : Option OrderState) → IsNumbered 31 (still_paid nonces now held o)
+    by None = tt
+    by (Some facts) = where_-numbered _ (Funded _)
+funded-numbered known nonces now held command = tt
+
 -- the refusals of a question stand in the order of their numbers, from 5 on
 pub refusals-numbered : (q : Question) → AreNumbered 5 (refusals q)
 refusals-numbered q =
-    (where_-numbered _ NotAllowed, (where_-numbered _ NoCondition, (where_-numbered _ AlreadyPrepared, (where_-numbered _ TableFull, (where_-numbered _ BadSet, (where_-numbered _ BadPartition, (where_-numbered _ Held, (where_-numbered _ TooDeep, (where_-numbered _ AlreadyReported, (where_-numbered _ BadPayouts, (where_-numbered _ NotReported, (where_-numbered _ NoEvent, (numbered-each 17 Determined (λ winner. refl) (winner_before (events q.history) q.command), (where_-numbered _ NoMarket, (where_-numbered _ (NoOrder 0), (numbered-each 20 (λ filled. NotOpen filled 0) (λ filled. refl) (shut_by (orders q.history) q.command), (where_-numbered _ (OrderExpired 0), (where_-numbered _ (NonceOld (nonce q.history q.account) 0), (tt, (tt, (tt, (tt, (tt, (numbered-each 28 (λ short. Unfunded short.1 short.0) (λ short. refl) (short_of (conditions q.history) (events q.history) (balance q.history q.account) q.command), (tt, (tt, (tt, (where_-numbered _ (VaultLimit (vault q.history)), (numbered-each 33 SupplyLimit (λ in_all. refl) (oversupplied (supply q.history) (postings_of (book q.history) q.account q.command)), (where_-numbered _ EntriesLimit, (where_-numbered _ HistoryFull, tt)))))))))))))))))))))))))))))))
+    let known = order_state q.history in
+    let open_ = at_first-numbered 20 known shut (λ place fill order. where_-numbered _ (NotOpen order.filled place)) 0 (orders_changed q.command) in
+    let other = of_makers-numbered 23 known own (λ taker place fill order. where_-numbered _ (SelfMatch place)) q.command in
+    let pair = of_makers-numbered 25 known unpaired (λ taker place fill order. where_-numbered _ (WrongPair place)) q.command in
+    let crossing = of_makers-numbered 26 known uncrossed (λ taker place fill order. where_-numbered _ (NotCrossing _ place _)) q.command in
+    let left = at_first-numbered 27 known overfilled (λ place fill order. where_-numbered _ (Overfill place _)) 0 (orders_matched q.command) in
+    (where_-numbered _ NotAllowed, (where_-numbered _ NoCondition, (where_-numbered _ AlreadyPrepared, (where_-numbered _ TableFull, (where_-numbered _ BadSet, (where_-numbered _ BadPartition, (where_-numbered _ Held, (where_-numbered _ TooDeep, (where_-numbered _ AlreadyReported, (where_-numbered _ BadPayouts, (where_-numbered _ NotReported, (where_-numbered _ NoEvent, (numbered-each 17 Determined (λ winner. refl) (winner_before (events q.history) q.command), (where_-numbered _ NoMarket, (unplaced-numbered known 0 (orders_named q.command), (open_, (expired-numbered known q.moment q.command, (outdated-numbered known (nonce q.history) q.account q.command, (other, (repeats-numbered q.command, (pair, (crossing, (left, (numbered-each 28 (λ short. Unfunded short.1 short.0) (λ short. refl) (short_of (book q.history) q.account q.command), (numbered-each 29 ExchangeShort (λ place. refl) (short_by (placed q.history) q.command), (numbered-each 30 (λ little. TooLittle little.1 little.0) (λ little. refl) (little_by (placed q.history) q.command), (funded-numbered known (nonce q.history) q.moment (balance q.history) q.command, (where_-numbered _ (VaultLimit (vault q.history)), (numbered-each 33 SupplyLimit (λ in_all. refl) (oversupplied (supply q.history) (postings_of (book q.history) q.account q.command)), (where_-numbered _ EntriesLimit, (where_-numbered _ HistoryFull, tt)))))))))))))))))))))))))))))))
 
 numbered : (number : ℕ) (o : Option Refusal) (refusal : Refusal) → IsNumbered number o → o ≡ Some refusal → code_of refusal ≡ number
 numbered number o refusal is there = let P : Option Refusal → Type 0 = λ p. IsNumbered number p in subst P there is

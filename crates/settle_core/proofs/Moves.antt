@@ -1,6 +1,6 @@
 -- What an accepted command moves, in what it is worth at an outcome: it pays what it takes and deposits, but that a
 -- redemption may lose what is rounded down.
-use Rattle.std.proofs.Common.{◌≡◌, ℕ, ◌+◌, ◌-◌, ◌*◌, ◌<◌, ◌≤◌, ◌^◌, Bool, true, false, List, [], ◌∷◌, ◌++◌, length, Option, Some, None, refl, sym, ap, subst, ◌∙◌, arith, inl, inr}
+use Rattle.std.proofs.Common.{◌≡◌, ℕ, ◌+◌, ◌-◌, ◌*◌, ◌<◌, ◌≤◌, ◌^◌, Bool, true, false, List, [], ◌∷◌, ◌++◌, length, Option, Some, None, refl, sym, ap, subst, ◌∙◌, All, arith, inl, inr}
 use Rattle.std.specs.Prelude.{◌==◌, map, sum, slice_get, MatchOption}
 use Rattle.std.specs.List.{flat_map}
 use Rattle.std.proofs.lemmas.Bool.{cases_Bool, eqb-true, or_parts}
@@ -10,7 +10,8 @@ use Rattle.std.proofs.lemmas.Option.{slice_get_within}
 use Rattle.collection_keys.specs.Collections.{Pairs, joined, part, root}
 use Rattle.command_words.specs.declared.act.Act.{Act}
 use Rattle.command_words.specs.declared.command.Command.{Command}
-use Rattle.command_words.specs.declared.command.Command.TheVariants.{Deposit, Withdraw, Move, Split, Merge, Redeem, Convert}
+use Rattle.command_words.specs.declared.command.Command.TheVariants.{Deposit, Withdraw, Move, Split, Merge, Redeem, Convert, Match}
+use Rattle.condition_sets.proofs.Unions.{AreApart_from_none}
 use Rattle.condition_sets.specs.Sets.{union_of}
 use Rattle.condition_sets.specs.declared.names.TheConstants.{EXCHANGE}
 use Rattle.condition_table.specs.Conditions.{IsReport}
@@ -18,7 +19,7 @@ use Rattle.condition_table.specs.declared.facts.Facts.{Facts}
 use Rattle.convert_positions.specs.Questions.{conditions_of}
 use Rattle.coverage_law.proofs.Conversions.{conversion-worth}
 use Rattle.coverage_law.proofs.Needs.{paid-append, paid-cons, taken-append, taken-cons, paid-none, taken-none, credit-paid, credit-taken, debit-paid, debit-taken, credits-taken, debits-paid}
-use Rattle.coverage_law.proofs.Worths.{answered-worth, cash-worth, parts-paid, parts-taken, whole-worth, redeemed-worth}
+use Rattle.coverage_law.proofs.Worths.{answered-worth, cash-worth, parts-paid, parts-taken, union-worth, whole-worth, redeemed-worth}
 use Rattle.coverage_law.specs.Need.{paid_worth, taken_worth}
 use Rattle.coverage_law.specs.Outcomes.{Outcome, IsLawful, HaveWinners, winners}
 use Rattle.coverage_law.specs.Questions.{AreQuestions, IsQuestion}
@@ -27,18 +28,28 @@ use Rattle.event_table.specs.Events.{EventView}
 use Rattle.ledger_book.specs.Entries.{held_after}
 use Rattle.ledger_book.specs.Postings.{credit, debit}
 use Rattle.ledger_book.specs.declared.posting.Posting.{Posting}
+use Rattle.match_kinds.proofs.Balance.{balanced}
+use Rattle.match_kinds.specs.Matching.{IsMaker, IsPart, pairs_merged, pairs_minted, token_of}
+use Rattle.match_kinds.specs.Settling.{match_postings, short_place}
+use Rattle.match_kinds.specs.declared.part.Part.{Part}
+use Rattle.order_rules.specs.declared.token.Token.TheVariants.{Yes, No}
+use Rattle.order_table.specs.declared.order.Placed.{Placed}
 use Rattle.report_redeem.specs.Redeeming.{Redeemed, redeemed_of, redeemed_behind, postings_for}
 use Rattle.split_merge.specs.Splitting.{parts_of, split_postings, merge_postings}
 use Rattle.settle_core.specs.Book.{Book, Payouts, book, conditions, converted_by, converted_in, events, held_in, numerators_on, postings_of, redeemed_in, reports, told_on}
 use Rattle.settle_core.specs.Bounds.{Bounds}
 use Rattle.settle_core.specs.Coverage.{outlook, outlook_of, questions_of, results, results_of}
 use Rattle.settle_core.specs.Keys.{slots_of, whole_in}
+use Rattle.settle_core.specs.Matches.{matched_in, part_of, parts_in, short_in}
+use Rattle.settle_core.specs.Orders.{placed}
 use Rattle.settle_core.specs.Postings.{deposit_of, withdrawal_of}
 use Rattle.settle_core.specs.Refusals.{Question, is_outside}
 use Rattle.settle_core.proofs.Lists.{told-before, told-behind}
+use Rattle.settle_core.proofs.Markets.{HasTwoSlots}
+use Rattle.settle_core.proofs.Matched.{IsMatched}
 use Rattle.settle_core.proofs.Orderly.{AreRight, IsAnswer, IsOrderlyBy, IsOrderlyOf, IsQuestionIn, each-question, event-listed, question-unreported, question-within, right-of}
 use Rattle.settle_core.proofs.Partitions.{IsPartition, accepted-split, accepted-merge, accepted-redeem, IsChoice}
-use Rattle.settle_core.proofs.Verdicts.{AreNone, earlier, accepted-proper}
+use Rattle.settle_core.proofs.Verdicts.{AreNone, earlier, accepted-flows, accepted-proper}
 
 -- each slot of an outcome is one of its condition
 abbrev pub HasSlots : List Facts → Outcome → Type 0
@@ -211,6 +222,39 @@ converted-moved b outcome a e set amount (Some event) is lawful at some inside =
     conversion-worth (results_of b) outcome a amount event.bips set event.conditions (are-questions b outcome e event is lawful at) (is.sizes e event at).1
     (record { some = grind (arith, nat_tests, some); inside = grind (arith, nat_tests, inside) }) (winners-few b outcome e event lawful at)
 
+-- ---- matches
+
+-- a pair of the two tokens of a market is worth what cash is
+pair-worth : (prepared : List Facts) (numerators : ℕ → Option (List ℕ)) (outcome : Outcome) (market : ℕ) → AreRight prepared numerators → HasSlots prepared outcome → HasTwoSlots prepared market
+    → let v = worth (record { conditions = length prepared; numerators = numerators }) outcome in
+    v (token_of market Yes) + v (token_of market No) ≡ v root
+pair-worth prepared numerators outcome market right lawful two = by (slice_get prepared market) refl two
+  where
+    by : (o : Option Facts) → slice_get prepared market ≡ o → MatchOption o ⊥ (λ f. f.slots ≡ 2)
+        → let v = worth (record { conditions = length prepared; numerators = numerators }) outcome in
+        v (token_of market Yes) + v (token_of market No) ≡ v root
+    by None at two = absurd two
+    by (Some f) at two =
+        let r : Results = record { conditions = length prepared; numerators = numerators } in
+        let v : Pairs → ℕ = worth r outcome in
+        let inside : market < length prepared = slice_get_within prepared market f at in
+        let parts = union-worth r outcome root market 1 (1 ∷ 2 ∷ []) inside refl (AreApart_from_none (1 ∷ 2 ∷ []) refl) in
+        let whole = whole-worth r outcome root market 2 3 inside refl refl (omega (arith, lawful market f at, two)) (λ ns reported. (right-report prepared numerators market f ns right at reported).each ∙ two) in
+        omega (arith, parts, whole)
+
+-- so that a match pays what it takes
+match-even : (prepared : List Facts) (numerators : ℕ → Option (List ℕ)) (outcome : Outcome) (market : ℕ) (taker : Part) (makers : List Part) → AreRight prepared numerators → HasSlots prepared outcome → HasTwoSlots prepared market
+    → IsPart taker → All (IsMaker taker) makers → short_place taker makers ≡ None
+    → let v = worth (record { conditions = length prepared; numerators = numerators }) outcome in
+    paid_worth v (match_postings market taker makers) ≡ taken_worth v (match_postings market taker makers)
+unfolding paid_worth taken_worth
+match-even prepared numerators outcome market taker makers right lawful two part are_makers none =
+    let v : Pairs → ℕ = worth (record { conditions = length prepared; numerators = numerators }) outcome in
+    let pair = pair-worth prepared numerators outcome market right lawful two in
+    let minted : pairs_minted taker makers * (v (token_of market Yes) + v (token_of market No)) ≡ pairs_minted taker makers * v root = ap (λ n. pairs_minted taker makers * n) pair in
+    let merged : pairs_merged taker makers * (v (token_of market Yes) + v (token_of market No)) ≡ pairs_merged taker makers * v root = ap (λ n. pairs_merged taker makers * n) pair in
+    omega (arith, balanced v market taker makers part are_makers none, minted, merged)
+
 -- ---- by cases on the command
 
 -- a redemption and a conversion alone may lose something
@@ -221,28 +265,36 @@ may_lose command = false
 
 -- every other accepted command pays what it takes, with what it deposits and withdraws
 pub moved-even : (limits : Bounds) (history : List Act) (account moment : ℕ) (command : Command) (outcome : Outcome)
-    → AreRight (conditions history) (numerators_on (reports history)) → HasSlots (conditions history) outcome → may_lose command ≡ false
+    → AreRight (conditions history) (numerators_on (reports history)) → HasSlots (conditions history) outcome → IsMatched history command → may_lose command ≡ false
     → AreNone (earlier (record { limits = limits; history = history; account = account; command = command; moment = moment }))
     → paid_worth (worth (results history) outcome) (postings_of (book history) account command) + withdrawal_of command * denominator (results history)
     ≡ taken_worth (worth (results history) outcome) (postings_of (book history) account command) + deposit_of command * denominator (results history)
-moved-even limits history account moment (Deposit to amount) outcome right lawful other none =
+moved-even limits history account moment (Deposit to amount) outcome right lawful matched other none =
     let v : Pairs → ℕ = worth (results history) outcome in
     let cash : amount * v root ≡ amount * denominator (results history) = ap (λ n. amount * n) (cash-worth (results history) outcome) in
     omega (arith, cash, credit-paid v to root amount, credit-taken v to root amount)
-moved-even limits history account moment (Withdraw amount) outcome right lawful other none =
+moved-even limits history account moment (Withdraw amount) outcome right lawful matched other none =
     let v : Pairs → ℕ = worth (results history) outcome in
     let cash : amount * v root ≡ amount * denominator (results history) = ap (λ n. amount * n) (cash-worth (results history) outcome) in
     omega (arith, cash, debit-paid v account root amount, debit-taken v account root amount)
-moved-even limits history account moment (Move to key amount) outcome right lawful other none =
+moved-even limits history account moment (Move to key amount) outcome right lawful matched other none =
     let v : Pairs → ℕ = worth (results history) outcome in
     omega (arith, paid-cons v (debit account key amount) (credit to key amount ∷ []), taken-cons v (debit account key amount) (credit to key amount ∷ []), credit-paid v to key amount, credit-taken v to key amount)
-moved-even limits history account moment (Split parent condition sets amount) outcome right lawful other none =
+moved-even limits history account moment (Split parent condition sets amount) outcome right lawful matched other none =
     omega (arith, split-even (conditions history) (numerators_on (reports history)) outcome account amount parent condition sets right lawful (accepted-split limits history account moment parent condition sets amount none))
-moved-even limits history account moment (Merge parent condition sets amount) outcome right lawful other none =
+moved-even limits history account moment (Merge parent condition sets amount) outcome right lawful matched other none =
     omega (arith, merge-even (conditions history) (numerators_on (reports history)) outcome account amount parent condition sets right lawful (accepted-merge limits history account moment parent condition sets amount none))
-moved-even limits history account moment (Redeem parent condition sets) outcome right lawful other none = cc
-moved-even limits history account moment (Convert event set amount) outcome right lawful other none = cc
-moved-even limits history account moment command outcome right lawful other none =
+moved-even limits history account moment (Redeem parent condition sets) outcome right lawful matched other none = cc
+moved-even limits history account moment (Convert event set amount) outcome right lawful matched other none = cc
+moved-even limits history account moment (Match taker fill makers) outcome right lawful matched other none =
+    let q : Question = record { limits = limits; history = history; account = account; command = Match taker fill makers; moment = moment } in
+    let v : Pairs → ℕ = worth (results history) outcome in
+    let parts = parts_in (placed history) makers in
+    let order = matched.parts.order in
+    let none_short : short_in (Some order) fill parts ≡ None = sym (ap (λ (o : Option Placed). short_in o fill parts) matched.parts.at) ∙ accepted-flows q none in
+    let even = match-even (conditions history) (numerators_on (reports history)) outcome order.market (part_of order fill) parts right lawful matched.market matched.parts.taken matched.parts.made.each none_short in
+    subst (λ (o : Option Placed). paid_worth v (matched_in o fill parts) + 0 * denominator (results history) ≡ taken_worth v (matched_in o fill parts) + 0 * denominator (results history)) (sym matched.parts.at) (omega (arith, even))
+moved-even limits history account moment command outcome right lawful matched other none =
     omega (arith, paid-none (worth (results history) outcome), taken-none (worth (results history) outcome))
 
 -- what an accepted conversion takes, and what it pays
@@ -257,28 +309,28 @@ accepted-converted limits history account moment event set amount outcome is law
     converted-moved (book history) outcome account event set amount (slice_get (events history) event) is lawful refl parts.0 parts.1
 
 -- and none pays more than it takes
-pub moved-within : (limits : Bounds) (history : List Act) (account moment : ℕ) (command : Command) (outcome : Outcome) → IsOrderlyBy history → IsLawful (outlook history) outcome
+pub moved-within : (limits : Bounds) (history : List Act) (account moment : ℕ) (command : Command) (outcome : Outcome) → IsOrderlyBy history → IsLawful (outlook history) outcome → IsMatched history command
     → AreNone (earlier (record { limits = limits; history = history; account = account; command = command; moment = moment }))
     → paid_worth (worth (results history) outcome) (postings_of (book history) account command) + withdrawal_of command * denominator (results history)
     ≤ taken_worth (worth (results history) outcome) (postings_of (book history) account command) + deposit_of command * denominator (results history)
-moved-within limits history account moment (Redeem parent condition sets) outcome is lawful none =
+moved-within limits history account moment (Redeem parent condition sets) outcome is lawful matched none =
     omega (arith, redeem-within (book history) outcome account parent condition sets (numerators_on (reports history) condition) is lawful (accepted-redeem limits history account moment parent condition sets none) refl)
-moved-within limits history account moment (Convert event set amount) outcome is lawful none =
+moved-within limits history account moment (Convert event set amount) outcome is lawful matched none =
     omega (arith, accepted-converted limits history account moment event set amount outcome is lawful none)
-moved-within limits history account moment command outcome is lawful none =
-    omega (arith, moved-even limits history account moment command outcome (right-of (book history) is) lawful.slots refl none)
+moved-within limits history account moment command outcome is lawful matched none =
+    omega (arith, moved-even limits history account moment command outcome (right-of (book history) is) lawful.slots matched refl none)
 
 -- before any report, and where a question of the event of a conversion wins, each pays just what it takes
 pub moved-exact : (limits : Bounds) (history : List Act) (account moment : ℕ) (command : Command) (outcome : Outcome) → IsOrderlyBy history → IsLawful (outlook history) outcome → reports history ≡ []
-    → HaveWinners outcome (converted_by (events history) command)
+    → HaveWinners outcome (converted_by (events history) command) → IsMatched history command
     → AreNone (earlier (record { limits = limits; history = history; account = account; command = command; moment = moment }))
     → paid_worth (worth (results history) outcome) (postings_of (book history) account command) + withdrawal_of command * denominator (results history)
     ≡ taken_worth (worth (results history) outcome) (postings_of (book history) account command) + deposit_of command * denominator (results history)
-moved-exact limits history account moment (Redeem parent condition sets) outcome is lawful before won none =
+moved-exact limits history account moment (Redeem parent condition sets) outcome is lawful before won matched none =
     let b = book history in
     let unreported : numerators_on (reports history) condition ≡ None = ap (λ (rs : List Payouts). numerators_on rs condition) before in
     omega (arith, redeem-even b outcome account parent condition sets (told_on b condition) is lawful (accepted-redeem limits history account moment parent condition sets none) unreported (sym (told-behind b.reports b.answers condition unreported)))
-moved-exact limits history account moment (Convert event set amount) outcome is lawful before won none =
+moved-exact limits history account moment (Convert event set amount) outcome is lawful before won matched none =
     omega (arith, accepted-converted limits history account moment event set amount outcome is lawful none, nothing (slice_get (events history) event) won)
   where
     nothing : (o : Option EventView) → HaveWinners outcome (conditions_of o ∷ []) → lost_in (results history) outcome o amount ≡ 0
@@ -286,4 +338,4 @@ moved-exact limits history account moment (Convert event set amount) outcome is 
     nothing (Some e) won =
         let one : winners outcome e.conditions ≡ 1 = All-head (λ (qs : List ℕ). winners outcome qs ≡ 1) e.conditions [] won in
         rw one (omega arith)
-moved-exact limits history account moment command outcome is lawful before won none = moved-even limits history account moment command outcome (right-of (book history) is) lawful.slots refl none
+moved-exact limits history account moment command outcome is lawful before won matched none = moved-even limits history account moment command outcome (right-of (book history) is) lawful.slots matched refl none

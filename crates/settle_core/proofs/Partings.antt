@@ -1,5 +1,5 @@
--- The verdict on commands that take, move and pay out positions, refusal by refusal.
-use Rattle.std.proofs.Common.{◌≡◌, ◌==◌, ◌^◌, ℕ, cond, Bool, true, false, List, [], ◌∷◌, length, Option, None, Some, Err, refl, sym, ap, ◌∙◌, arith}
+-- The verdict on commands, refusal by refusal.
+use Rattle.std.proofs.Common.{◌≡◌, ◌==◌, ◌^◌, ℕ, cond, Bool, true, false, List, [], ◌∷◌, ◌++◌, length, Option, None, Some, Err, refl, sym, ap, ◌∙◌, arith}
 use Rattle.std.specs.Prelude.{not, nat_le, nat_lt, ◌||◌, is_some, is_none, slice_get, option_and_then, option_map}
 use Rattle.std.specs.List.{list_any}
 use Rattle.std.proofs.lemmas.Bool.Decides.{nat_tests}
@@ -8,7 +8,7 @@ use Rattle.collection_keys.specs.Collections.{Pairs, part}
 use Rattle.collection_keys.specs.declared.collection.TheConstants.{MAX_PAIRS}
 use Rattle.command_words.specs.declared.act.Act.{Act}
 use Rattle.command_words.specs.declared.command.Command.{Command}
-use Rattle.command_words.specs.declared.command.Command.TheVariants.{Deposit, Withdraw, Move, Split, Merge, Report, Answer, Redeem, Convert, Place}
+use Rattle.command_words.specs.declared.command.Command.TheVariants.{Deposit, Withdraw, Move, Split, Merge, Report, Answer, Redeem, Convert, Place, Match, Lapse}
 use Rattle.command_words.specs.declared.refusal.Refusal.{Refusal}
 use Rattle.command_words.specs.declared.refusal.Refusal.TheVariants.{NoCondition, TableFull, NoMarket, OrderExpired, NonceOld, BadSet, BadPartition, Held, TooDeep, BadPayouts, NotReported, NoEvent, Unfunded, HistoryFull, Memory}
 use Rattle.condition_sets.specs.declared.names.TheConstants.{EXCHANGE, OPERATOR}
@@ -21,9 +21,11 @@ use Rattle.settle_core.specs.Book.{book, conditions, events, postings_of, told}
 use Rattle.settle_core.specs.Bounds.{Bounds}
 use Rattle.order_rules.specs.declared.side.Side.{Side}
 use Rattle.order_table.specs.Orders.{open_in}
-use Rattle.settle_core.specs.Orders.{has_expired, is_market, nonce, orders}
+use Rattle.settle_core.specs.OrderRules.{at_first, has_expired, match_refusals, never_placed, shut, still_paid, where_}
+use Rattle.settle_core.specs.Orders.{is_market, nonce, order_state, orders, placed}
+use Rattle.settle_core.specs.Rules.{funding_refusals}
 use Rattle.settle_core.specs.Postings.{balance}
-use Rattle.settle_core.specs.Refusals.{Question, where_, not_allowed, already_reported, bad_payouts, not_reported, no_event, determined, no_market, no_order, not_open, order_expired, nonce_old, self_match, repeated_order, wrong_pair, not_crossing, overfill, unfunded, exchange_short, too_little, still_funded, vault_limit, supply_limit, entries_limit, history_full, choice_refusals, partition_refusals, is_no_report, is_outside}
+use Rattle.settle_core.specs.Refusals.{Question, not_allowed, already_reported, bad_payouts, not_reported, no_event, determined, no_market, no_order, not_open, order_expired, nonce_old, self_match, repeated_order, wrong_pair, not_crossing, overfill, unfunded, exchange_short, too_little, still_funded, vault_limit, supply_limit, entries_limit, history_full, choice_refusals, partition_refusals, is_no_report, is_outside}
 use Rattle.settle_core.specs.Keys.{is_unprepared, is_improper, key_is_unprepared, key_is_improper, is_no_partition}
 use Rattle.settle_core.specs.Verdict.{verdict, first_some, AnsweredBy}
 use Rattle.condition_table.specs.declared.facts.Facts.{Facts}
@@ -320,3 +322,30 @@ place-front limits history account market set side making taking expires number 
 place-front limits history account market set side making taking expires number fee now false true true true same full operator exchange a t o e s f = rw (operator, exchange, a, t, o, e) refl
 place-front limits history account market set side making taking expires number fee now false true true false false full operator exchange a t o e s f = rw (operator, exchange, a, t, o, e, s) refl
 place-front limits history account market set side making taking expires number fee now false true true false true full operator exchange a t o e s f = rw (operator, exchange, a, t, o, e, s, f) refl
+
+-- ---- matches
+
+-- a match by the operator is refused for its orders first, then for what its parts pay and get, and then at last
+pub match-front : (limits : Bounds) (history : List Act) (account taker fill : ℕ) (makers : List (ℕ × ℕ)) (now : ℕ) → let q : Question = question limits history account (Match taker fill makers) now in
+    (account == OPERATOR) ≡ true
+    → verdict q ≡ first_some (match_refusals (order_state history) (nonce history) now taker fill makers ++ (funding_refusals (placed history) (balance history) taker fill makers
+    ++ None ∷ None ∷ supply_limit q ∷ entries_limit q ∷ where_ (nat_le limits.history (length history)) HistoryFull ∷ []))
+unfolding verdict
+match-front limits history account taker fill makers now operator = rw operator refl
+
+-- ---- lapses
+
+-- an order that the operator lapses is refused for the first of four causes
+pub lapse-front : (limits : Bounds) (history : List Act) (account order now : ℕ) → let q : Question = question limits history account (Lapse order) now in
+    (account == OPERATOR) ≡ true
+    → verdict q ≡ first_some (never_placed (order_state history) 0 ((order, 0) ∷ []) ∷ at_first (order_state history) shut 0 ((order, 0) ∷ [])
+    ∷ still_paid (nonce history) now (balance history) (order_state history order) ∷ where_ (nat_le limits.history (length history)) HistoryFull ∷ [])
+unfolding verdict
+lapse-front limits history account order now operator = rw operator (skip (never_placed (order_state history) 0 ((order, 0) ∷ [])) (at_first (order_state history) shut 0 ((order, 0) ∷ [])) (still_paid (nonce history) now (balance history) (order_state history order)) (where_ (nat_le limits.history (length history)) HistoryFull))
+  where
+    skip : (a b c d : Option Refusal)
+        → first_some (a ∷ b ∷ None ∷ None ∷ None ∷ None ∷ None ∷ None ∷ None ∷ None ∷ None ∷ None ∷ c ∷ None ∷ None ∷ None ∷ d ∷ []) ≡ first_some (a ∷ b ∷ c ∷ d ∷ [])
+    skip (Some x) b c d = refl
+    skip None (Some x) c d = refl
+    skip None None (Some x) d = refl
+    skip None None None d = refl

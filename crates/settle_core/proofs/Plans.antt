@@ -24,7 +24,8 @@ use Rattle.settle_core.specs.Bounds.{Bounds}
 use Rattle.settle_core.specs.Kept.{IsKept}
 use Rattle.settle_core.specs.Keys.{union_in, whole_in}
 use Rattle.settle_core.specs.Postings.{balance}
-use Rattle.settle_core.specs.Refusals.{Question, choice_refusals, entries_limit, supply_limit, where_}
+use Rattle.settle_core.specs.OrderRules.{where_}
+use Rattle.settle_core.specs.Refusals.{Question, choice_refusals, entries_limit, supply_limit}
 use Rattle.settle_core.specs.Verdict.{AnsweredBy, first_some, verdict}
 use Rattle.settle_core.proofs.KeptLemmas.{kept-balance, last_refusals}
 use Rattle.settle_core.proofs.Partings.{IsToFund, convert-front, front-refused, parting, question, redeem-front, short-none, short-some}

@@ -8,27 +8,30 @@ use Rattle.std.proofs.lemmas.Bool.Decides.{nat_tests}
 use Rattle.std.proofs.lemmas.List.{length-map}
 use Rattle.collection_keys.specs.Collections.{Pairs, joined, root}
 use Rattle.command_words.specs.Command.{in_ranges, makes_act}
-use Rattle.command_words.specs.Ranges.{is_key, is_condition, is_sets, is_amount, is_bits, has_up_to}
+use Rattle.command_words.specs.Ranges.{is_amount, is_bits, is_condition, is_fill, is_key, is_makers, is_order, is_sets, has_up_to}
 use Rattle.command_words.specs.Reply.{IsSound, rests_of}
 use Rattle.command_words.specs.declared.act.Act.{Act}
 use Rattle.command_words.specs.declared.act.TheConstants.{MAX_HISTORY}
 use Rattle.command_words.specs.declared.command.Command.{Command}
-use Rattle.command_words.specs.declared.command.Command.TheVariants.{Deposit, Withdraw, Move, Split, Merge, Redeem, Convert, Cross, Balance, Order, Vault}
-use Rattle.command_words.specs.declared.ranges.TheConstants.{MAX_SETS}
+use Rattle.command_words.specs.declared.command.Command.TheVariants.{Deposit, Withdraw, Move, Split, Merge, Redeem, Convert, Match, Cross, Balance, Order, Vault}
+use Rattle.command_words.specs.declared.ranges.TheConstants.{MAX_MAKERS, MAX_SETS}
 use Rattle.condition_sets.specs.declared.names.TheConstants.{OPERATOR}
 use Rattle.convert_positions.proofs.Counting.{chosen-some}
 use Rattle.convert_positions.specs.Converting.{IsChoice, cash_of, chosen, chosen_from, fee_of, no_of, others, others_from, out_of, paid_for, yes_of}
 use Rattle.event_table.specs.Events.{EventView}
 use Rattle.ledger_book.specs.Postings.{credit, debit}
 use Rattle.ledger_book.specs.declared.posting.Posting.{Posting}
+use Rattle.match_kinds.specs.declared.settle.MatchSums.{MatchSums}
 use Rattle.report_redeem.proofs.Redemptions.{redeemed-many, sums-many}
 use Rattle.split_merge.specs.Splitting.{parts_of, split_postings, merge_postings}
 use Rattle.settle_core.specs.Book.{Book, book, converted_in, events, held_in, postings_of, redeemed_in, sums_in, told, told_on}
 use Rattle.order_table.specs.Orders.{OrderView}
 use Rattle.settle_core.specs.Kept.{most_posted}
-use Rattle.settle_core.specs.Orders.{orders}
+use Rattle.settle_core.specs.Matches.{parts_in, sums_in as match_sums}
+use Rattle.settle_core.specs.Orders.{orders, placed}
 use Rattle.settle_core.specs.Keys.{whole_in}
-use Rattle.settle_core.specs.Reply.{accepted_reply, converted_reply, ordered_reply}
+use Rattle.settle_core.specs.Reply.{accepted_reply, converted_reply, matched_reply, ordered_reply}
+use Rattle.settle_core.proofs.Matched.{matched-few}
 
 sets-few : (sets : List ℕ) → is_sets sets ≡ true → length sets ≤ MAX_SETS
 sets-few sets is =
@@ -122,6 +125,23 @@ converted-few : (a set amount : ℕ) (o : Option EventView) → MatchOption o �
 converted-few a set amount None fits = omega arith
 converted-few a set amount (Some event) fits = omega (arith, fits.0, converted-many a set amount event, chosen-some set event.conditions fits.1)
 
+-- a match has one maker at least, and few
+pub makers-some : (taker fill : ℕ) (makers : List (ℕ × ℕ)) → in_ranges (Match taker fill makers) ≡ true → 1 ≤ length makers
+makers-some taker fill makers ranges =
+    let one = (and_parts (is_order taker) (is_amount fill && is_makers makers) ranges).1 in
+    let two = (and_parts (is_amount fill) (is_makers makers) one).1 in
+    let many = (and_parts (list_all is_fill makers) (has_up_to MAX_MAKERS makers) two).1 in
+    let least : nat_le 1 (length makers) ≡ true = (and_parts (nat_le 1 (length makers)) (nat_le (length makers) MAX_MAKERS) many).0 in
+    grind (arith, nat_tests, least)
+
+pub makers-few : (taker fill : ℕ) (makers : List (ℕ × ℕ)) → in_ranges (Match taker fill makers) ≡ true → length makers ≤ MAX_MAKERS
+makers-few taker fill makers ranges =
+    let one = (and_parts (is_order taker) (is_amount fill && is_makers makers) ranges).1 in
+    let two = (and_parts (is_amount fill) (is_makers makers) one).1 in
+    let many = (and_parts (list_all is_fill makers) (has_up_to MAX_MAKERS makers) two).1 in
+    let most : nat_le (length makers) MAX_MAKERS ≡ true = (and_parts (nat_le 1 (length makers)) (nat_le (length makers) MAX_MAKERS) many).1 in
+    grind (arith, nat_tests, most)
+
 -- a command in its ranges posts few
 pub posted-few : (b : Book) (a : ℕ) (command : Command) → in_ranges command ≡ true → AreChoices b.events command → length (postings_of b a command) ≤ most_posted
 posted-few b a (Deposit to amount) ranges choices = omega arith
@@ -133,6 +153,7 @@ posted-few b a (Withdraw amount) ranges choices = omega arith
 posted-few b a (Move to key amount) ranges choices = omega arith
 posted-few b a (Redeem parent condition sets) ranges choices = redeemed-few b a parent condition sets (told_on b condition) (sets-redeemed parent condition sets ranges)
 posted-few b a (Convert event set amount) ranges choices = converted-few a set amount (slice_get b.events event) choices
+posted-few b a (Match taker fill makers) ranges choices = omega (arith, makers-few taker fill makers ranges, matched-few b.placed (slice_get b.placed taker) fill makers)
 posted-few b a command ranges choices = omega arith
 
 -- the reply to a conversion
@@ -140,10 +161,16 @@ converted-sound : (lsn set amount : ℕ) (o : Option EventView) → lsn ≤ MAX_
 converted-sound lsn set amount None within = within
 converted-sound lsn set amount (Some event) within = within
 
+-- the reply to a match
+matched-sound : (lsn : ℕ) (o : Option MatchSums) → lsn ≤ MAX_HISTORY → IsSound (matched_reply lsn o)
+matched-sound lsn None within = within
+matched-sound lsn (Some sums) within = within
+
 -- the reply to an accepted command in its ranges
 pub reply-sound : (history : List Act) (a : ℕ) (command : Command) → in_ranges command ≡ true → length history ≤ MAX_HISTORY → IsSound (accepted_reply history a command)
 reply-sound history a (Redeem parent condition sets) ranges within = (within, sums-few (book history) a parent condition sets (told history condition) (sets-redeemed parent condition sets ranges))
 reply-sound history a (Convert event set amount) ranges within = converted-sound (length history) set amount (slice_get (events history) event) within
+reply-sound history a (Match taker fill makers) ranges within = matched-sound (length history) (match_sums (slice_get (placed history) taker) fill (parts_in (placed history) makers)) within
 reply-sound history a (Order order) ranges within = by (slice_get (orders history) order)
   where
     by : (o : Option OrderView) → IsSound (ordered_reply (length history) o)
@@ -162,4 +189,9 @@ accepted-rests history a (Convert event set amount) acts = by (slice_get (events
     by : (o : Option EventView) → rests_of (converted_reply (length history) o set amount) ≡ length history + 1
     by None = refl
     by (Some e) = refl
+accepted-rests history a (Match taker fill makers) acts = by (match_sums (slice_get (placed history) taker) fill (parts_in (placed history) makers))
+  where
+    by : (o : Option MatchSums) → rests_of (matched_reply (length history) o) ≡ length history + 1
+    by None = refl
+    by (Some sums) = refl
 accepted-rests history a command acts = refl

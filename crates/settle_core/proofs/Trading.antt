@@ -1,38 +1,34 @@
 -- The table of orders has what a history gives, and an accepted command may be entered into it.
 use Rattle.std.proofs.Common.{◌≡◌, ℕ, zero, suc, ◌+◌, ◌<◌, ◌≤◌, Bool, true, false, cond, List, [], ◌∷◌, ◌++◌, length, Option, Some, None, refl, sym, ap, subst, ◌∙◌, arith, inl, inr, length-append, append-nil}
-use Rattle.std.specs.Prelude.{◌==◌, ◌&&◌, ◌||◌, not, nat_le, is_none, slice_get, slice_index_or, slice_set, MatchOption}
-use Rattle.std.specs.List.{flat_map, list_any}
+use Rattle.std.specs.Prelude.{◌==◌, ◌&&◌, ◌||◌, not, nat_le, fold, is_none, slice_get, slice_index_or, slice_set, sum_by, MatchOption}
+use Rattle.std.specs.List.{list_any}
 use Rattle.std.proofs.lemmas.Bool.Decides.{nat_tests}
-use Rattle.std.proofs.lemmas.Grind.{flat_map-append}
 use Rattle.std.proofs.lemmas.List.Folds.{list_any-append}
 use Rattle.std.proofs.lemmas.List.Sums.{sum_by-cons, sum_by_push}
-use Rattle.std.proofs.lemmas.Option.{slice_get_cases, slice_get_within}
+use Rattle.std.proofs.lemmas.Option.{slice_get_cases}
 use Rattle.command_words.proofs.Acts.{act-makes}
 use Rattle.command_words.specs.declared.act.Act.{Act}
 use Rattle.command_words.specs.declared.act.TheConstants.{MAX_HISTORY}
 use Rattle.command_words.specs.declared.command.Command.{Command}
 use Rattle.command_words.specs.declared.command.Command.TheVariants.{Market, Place, Cancel, Bump, Match, Lapse}
+use Rattle.command_words.specs.declared.refusal.Refusal.TheVariants.{NoOrder}
 use Rattle.order_table.specs.Orders.{OrderView, OrdersView, after_end, is_market, is_open, nonce_of, open_in}
 use Rattle.order_table.specs.declared.order.Placed.{Placed}
+use Rattle.settle_core.specs.Book.{Book, blank, entered}
 use Rattle.settle_core.specs.Bounds.{Bounds}
-use Rattle.settle_core.specs.Built.{is_built}
-use Rattle.settle_core.specs.Kept.{AreOrdersOf, MayTrade, ended_in, orders_after, views_of}
+use Rattle.settle_core.specs.Kept.{AreOrdersOf, MayFillAll, MayTrade, ended_in, filled_in, orders_after, views_of}
 use Rattle.settle_core.specs.Legal.{IsAccepted, IsLegal}
-use Rattle.settle_core.specs.Orders.{ends, filled, filled_by, is_bump, is_ended, is_market as is_market_in, nonce, opened_by, orders, orders_from, placed, placed_by}
-use Rattle.settle_core.specs.Refusals.{shut}
+use Rattle.settle_core.specs.OrderRules.{never_placed, where_}
+use Rattle.settle_core.specs.Orders.{ends, fill_of, filled, filled_by, is_bump, is_ended, is_market as is_market_in, nonce, opened_by, order_state, orders, orders_from, placed}
+use Rattle.settle_core.specs.Placing.{placed_by}
 use Rattle.settle_core.specs.Verdict.{question_of}
+use Rattle.settle_core.proofs.Filling.{fill-all, may-match, named-open, named-within, none-filled, views-of_orders, views-same}
+use Rattle.settle_core.proofs.Histories.{market-more, placed-more}
 use Rattle.settle_core.proofs.Inductions.{legal-all}
-use Rattle.settle_core.proofs.Verdicts.{AreNone, earlier, earlier-none, accepted-market, accepted-open, accepted-open_market, accepted-order, accepted-orders, accepted-proper, accepted-within}
+use Rattle.settle_core.proofs.Parts.{or-none}
+use Rattle.settle_core.proofs.Verdicts.{AreNone, earlier, earlier-none, accepted-left, accepted-market, accepted-once, accepted-open, accepted-open_market, accepted-order, accepted-orders, accepted-others, accepted-proper, accepted-within}
 
 -- ---- one act more
-
-none-more : {X : Type 0} (xs : List X) → xs ++ [] ≡ xs
-none-more xs = append-nil xs
-
-placed-more : (history : List Act) (act : Act) → placed (history ++ act ∷ []) ≡ placed history ++ placed_by act.account act.command
-placed-more history act =
-    flat_map-append (λ (x : Act). placed_by x.account x.command) history (act ∷ [])
-    ∙ ap (λ (more : List Placed). placed history ++ more) (none-more (placed_by act.account act.command))
 
 or-false : (b : Bool) → (b || false) ≡ b
 or-false true = refl
@@ -47,18 +43,8 @@ ended-more history act o = any-push (λ (x : Act). ends o x.command) history act
 filled-more : (history : List Act) (act : Act) (o : ℕ) → filled (history ++ act ∷ []) o ≡ filled history o + filled_by o act.command
 filled-more history act o = sum_by_push (λ (x : Act). filled_by o x.command) history act
 
-market-more : (history : List Act) (act : Act) (c : ℕ) → is_market_in (history ++ act ∷ []) c ≡ (is_market_in history c || list_any (λ market. market == c) (opened_by act.command))
-market-more history act c =
-    ap (list_any (λ market. market == c)) (flat_map-append (λ (x : Act). opened_by x.command) history (act ∷ []) ∙ ap (λ (more : List ℕ). flat_map (λ (x : Act). opened_by x.command) history ++ more) (none-more (opened_by act.command)))
-    ∙ list_any-append (λ market. market == c) (flat_map (λ (x : Act). opened_by x.command) history) (opened_by act.command)
-
 nonce-more : (history : List Act) (act : Act) (a : ℕ) → nonce (history ++ act ∷ []) a ≡ nonce history a + cond ((act.account == a) && is_bump act.command) 1 0
 nonce-more history act a = sum_by_push (λ (x : Act). cond ((x.account == a) && is_bump x.command) 1 0) history act
-
--- nothing is filled by a command that is carried out so far
-unfilled : (command : Command) (o : ℕ) → is_built command ≡ true → filled_by o command ≡ 0
-unfilled (Match taker fill makers) o built = cc
-unfilled command o built = refl
 
 -- as many as were placed
 orders-many : (history : List Act) (n : ℕ) (ps : List Placed) → length (orders_from history n ps) ≡ length ps
@@ -72,35 +58,48 @@ record IsFresh (history : List Act) (o : ℕ) : Type 0 where
   pub none : filled history o ≡ 0
   pub unended : is_ended history o ≡ false
 
-inside : (history : List Act) (o : ℕ) → is_none (slice_get (orders history) o) ≡ false → o < length (placed history)
-inside history o there = by (slice_get (orders history) o) refl there
-  where
-    by : (x : Option OrderView) → slice_get (orders history) o ≡ x → is_none x ≡ false → o < length (placed history)
-    by None at is = cc
-    by (Some v) at is = omega (arith, slice_get_within (orders history) o v at, orders-many history 0 (placed history))
+-- an order that a command ends was placed
+inside : (history : List Act) (order : ℕ) → never_placed (order_state history) 0 ((order, 0) ∷ []) ≡ None → order < length (placed history)
+inside history order none =
+    let below = named-within (orders history) order 0 (or-none (where_ (is_none (order_state history order)) (NoOrder 0)) None none).0 in
+    omega (arith, below, orders-many history 0 (placed history))
 
 neither : (a b : Bool) → a ≡ false → b ≡ false → (a || b) ≡ false
 neither true b one two = cc
 neither false b one two = two
 
--- an accepted command ends no order from there on
-ends-none : (limits : Bounds) (history : List Act) (account moment : ℕ) (command : Command) (o : ℕ) → is_built command ≡ true → AreNone (earlier (question_of limits history (record { account = account; command = command; moment = moment })))
-    → length (placed history) ≤ o → ends o command ≡ false
-ends-none limits history account moment (Cancel order) o built none past =
+-- an accepted command ends and fills no order from there on
+record IsSpared (command : Command) (o : ℕ) : Type 0 where
+  pub fill : filled_by o command ≡ 0
+  pub kept : ends o command ≡ false
+
+spared : (limits : Bounds) (history : List Act) (account moment : ℕ) (command : Command) (o : ℕ) → AreNone (earlier (question_of limits history (record { account = account; command = command; moment = moment })))
+    → length (placed history) ≤ o → IsSpared command o
+spared limits history account moment (Cancel order) o none past =
     let below = inside history order (accepted-order (question_of limits history (record { account = account; command = Cancel order; moment = moment })) none) in
-    grind (arith, nat_tests, below, past)
-ends-none limits history account moment (Lapse order) o built none past = cc
-ends-none limits history account moment command o built none past = refl
+    record { fill = refl; kept = grind (arith, nat_tests, below, past) }
+spared limits history account moment (Lapse order) o none past =
+    let below = inside history order (accepted-order (question_of limits history (record { account = account; command = Lapse order; moment = moment })) none) in
+    record { fill = refl; kept = grind (arith, nat_tests, below, past) }
+spared limits history account moment (Match taker fill makers) o none past =
+    let named = accepted-order (question_of limits history (record { account = account; command = Match taker fill makers; moment = moment })) none in
+    let beyond : length (orders history) ≤ o = omega (arith, orders-many history 0 (placed history), past) in
+    record { fill = sym (sum_by-cons (fill_of o) (taker, fill) makers) ∙ none-filled (orders history) o 0 ((taker, fill) ∷ makers) beyond named; kept = refl }
+spared limits history account moment command o none past = record { fill = refl; kept = refl }
+
+-- what a command ends and fills leaves the others as they are
+kept-fresh : (history : List Act) (act : Act) (o : ℕ) → IsSpared act.command o → IsFresh history o → IsFresh (history ++ act ∷ []) o
+kept-fresh history act o spares is = record {
+  none = omega (arith, filled-more history act o, is.none, spares.fill);
+  unended = ended-more history act o ∙ neither (is_ended history o) (ends o act.command) is.unended spares.kept;
+}
 
 fresh-more : (limits : Bounds) (history : List Act) (act : Act) → ((o : ℕ) → length (placed history) ≤ o → IsFresh history o) → IsAccepted limits history act
     → (o : ℕ) → length (placed (history ++ act ∷ [])) ≤ o → IsFresh (history ++ act ∷ []) o
 fresh-more limits history act so_far accepted o past =
     let before : length (placed history) ≤ o = omega (arith, past, ap length (placed-more history act), length-append (placed history) (placed_by act.account act.command)) in
-    let is = so_far o before in
-    record {
-      none = omega (arith, filled-more history act o, is.none, unfilled act.command o accepted.is_built);
-      unended = ended-more history act o ∙ neither (is_ended history o) (ends o act.command) is.unended (ends-none limits history act.account act.moment act.command o accepted.is_built (earlier-none (question_of limits history act) accepted.accepted) before);
-    }
+    let none = earlier-none (question_of limits history act) accepted.accepted in
+    kept-fresh history act o (spared limits history act.account act.moment act.command o none before) (so_far o before)
 
 fresh : (limits : Bounds) (history : List Act) → IsLegal limits history → (o : ℕ) → length (placed history) ≤ o → IsFresh history o
 fresh limits history legal =
@@ -149,13 +148,6 @@ ended-from before after order n (suc k) (p ∷ ps) v fills ends place at =
     let rest = ended-from before after order (suc n) k ps v fills ends (omega (arith, place)) at in
     λ i. record { placed = p; filled = fills n i; ended = same i } ∷ rest i
 
--- a command that ends nothing leaves what was never placed as it is
-kept-fresh : (history : List Act) (act : Act) (o : ℕ) → is_built act.command ≡ true → ends o act.command ≡ false → IsFresh history o → IsFresh (history ++ act ∷ []) o
-kept-fresh history act o built none is = record {
-  none = omega (arith, filled-more history act o, is.none, unfilled act.command o built);
-  unended = ended-more history act o ∙ neither (is_ended history o) (ends o act.command) is.unended none;
-}
-
 -- orders that are new
 views-new : (history : List Act) (n : ℕ) (ps : List Placed) → ((o : ℕ) → n ≤ o → IsFresh history o) → orders_from history n ps ≡ views_of ps
 views-new history n [] is = refl
@@ -164,20 +156,13 @@ views-new history n (p ∷ ps) is =
     let rest = views-new history (suc n) ps (λ o past. is o (omega arith)) in
     λ i. record { placed = p; filled = here.none i; ended = here.unended i } ∷ rest i
 
--- the orders after an accepted command
-orders-with : (limits : Bounds) (history : List Act) (account moment : ℕ) (command : Command) → IsLegal limits history → is_built command ≡ true
-    → let act : Act = record { account = account; command = command; moment = moment } in
-    AreNone (earlier (question_of limits history act)) → orders_after account (orders history) command ≡ orders (history ++ act ∷ [])
-orders-with limits history account moment (Cancel order) legal built none = by (slice_get (orders history) order) refl
+-- the orders after an act that ends one
+orders-ended : (history : List Act) (act : Act) (order : ℕ) → placed_by act.account act.command ≡ [] → ((o : ℕ) → filled_by o act.command ≡ 0) → ((o : ℕ) → ends o act.command ≡ (order == o))
+    → order < length (placed history) → ended_in (orders history) order (slice_get (orders history) order) ≡ orders (history ++ act ∷ [])
+orders-ended history act order places fills ending there = by (slice_get (orders history) order) refl
   where
-    act : Act
-    act = record { account = account; command = Cancel order; moment = moment }
-
     placed-same : placed (history ++ act ∷ []) ≡ placed history
-    placed-same = placed-more history act ∙ append-nil (placed history)
-
-    there : order < length (placed history)
-    there = inside history order (accepted-order (question_of limits history act) none)
+    placed-same = placed-more history act ∙ (ap (λ (more : List Placed). placed history ++ more) places ∙ append-nil (placed history))
 
     by : (o : Option OrderView) → slice_get (orders history) order ≡ o → ended_in (orders history) order o ≡ orders (history ++ act ∷ [])
     by None at = absurd (past-end at)
@@ -192,14 +177,50 @@ orders-with limits history account moment (Cancel order) legal built none = by (
             clash e = cc
     by (Some v) at =
         sym (ap (orders_from (history ++ act ∷ []) 0) placed-same
-        ∙ ended-from history (history ++ act ∷ []) order 0 order (placed history) v (λ o. filled-more history act o ∙ omega arith) (λ o. ended-more history act o) (omega arith) at)
-orders-with limits history account moment (Match taker fill makers) legal built none = cc
-orders-with limits history account moment (Lapse order) legal built none = cc
-orders-with limits history account moment command legal built none =
+        ∙ ended-from history (history ++ act ∷ []) order 0 order (placed history) v (λ o. omega (arith, filled-more history act o, fills o)) (λ o. ended-more history act o ∙ ap (λ b. is_ended history o || b) (ending o)) (omega arith) at)
+
+-- and after one that fills some
+orders-filled : (history : List Act) (account moment taker fill : ℕ) (makers : List (ℕ × ℕ))
+    → filled_in (orders history) ((taker, fill) ∷ makers) ≡ orders (history ++ record { account = account; command = Match taker fill makers; moment = moment } ∷ [])
+orders-filled history account moment taker fill makers =
+    let ns = (taker, fill) ∷ makers in
+    let f : ℕ → ℕ = λ o. filled history o + sum_by (fill_of o) ns in
+    ap (λ (os : List OrderView). filled_in os ns) (views-of_orders history 0 (placed history))
+    ∙ (fill-all (filled history) (is_ended history) (placed history) ns
+    ∙ (views-same f (filled after) (is_ended history) (is_ended after) 0 (placed history) (λ o past. (fills o, ends-same o))
+    ∙ (sym (views-of_orders after 0 (placed history)) ∙ ap (orders_from after 0) (sym placed-same))))
+  where
+    act : Act
+    act = record { account = account; command = Match taker fill makers; moment = moment }
+
+    after : List Act
+    after = history ++ act ∷ []
+
+    placed-same : placed after ≡ placed history
+    placed-same = placed-more history act ∙ append-nil (placed history)
+
+    fills : (o : ℕ) → filled history o + sum_by (fill_of o) ((taker, fill) ∷ makers) ≡ filled after o
+    fills o = omega (arith, filled-more history act o, sum_by-cons (fill_of o) (taker, fill) makers)
+
+    ends-same : (o : ℕ) → is_ended history o ≡ is_ended after o
+    ends-same o = sym (ended-more history act o ∙ or-false (is_ended history o))
+
+-- the orders after an accepted command
+orders-with : (limits : Bounds) (history : List Act) (account moment : ℕ) (command : Command) → IsLegal limits history
+    → let act : Act = record { account = account; command = command; moment = moment } in
+    AreNone (earlier (question_of limits history act)) → orders_after account (orders history) command ≡ orders (history ++ act ∷ [])
+orders-with limits history account moment (Cancel order) legal none =
+    let act : Act = record { account = account; command = Cancel order; moment = moment } in
+    orders-ended history act order refl (λ o. refl) (λ o. refl) (inside history order (accepted-order (question_of limits history act) none))
+orders-with limits history account moment (Lapse order) legal none =
+    let act : Act = record { account = account; command = Lapse order; moment = moment } in
+    orders-ended history act order refl (λ o. refl) (λ o. refl) (inside history order (accepted-order (question_of limits history act) none))
+orders-with limits history account moment (Match taker fill makers) legal none = orders-filled history account moment taker fill makers
+orders-with limits history account moment command legal none =
     let act : Act = record { account = account; command = command; moment = moment } in
     let h = history ++ act ∷ [] in
     let same = same-from history h 0 (placed history) (λ o past. (filled-more history act o ∙ omega arith, ended-more history act o ∙ or-false (is_ended history o))) in
-    let new = views-new h (length (placed history)) (placed_by account command) (λ o past. kept-fresh history act o built refl (fresh limits history legal o past)) in
+    let new = views-new h (length (placed history)) (placed_by account command) (λ o past. kept-fresh history act o (record { fill = refl; kept = refl }) (fresh limits history legal o past)) in
     let place : 0 + length (placed history) ≡ length (placed history) = omega arith in
     sym (ap (orders_from h 0) (placed-more history act) ∙ (orders-append h 0 (placed history) (placed_by account command)
     ∙ (ap (λ (n : ℕ). orders_from h 0 (placed history) ++ orders_from h n (placed_by account command)) place ∙ (λ i. same i ++ new i))))
@@ -213,7 +234,7 @@ pub orders-kept : (limits : Bounds) (table table' : OrdersView) (history : List 
     → table'.limit ≡ table.limit → AreOrdersOf limits table' (history ++ act ∷ [])
 orders-kept limits table table' history act legal accepted are orders' markets' nonces' limit' = record {
   orders = orders' ∙ (ap (λ (os : List OrderView). orders_after act.account os act.command) are.orders
-      ∙ orders-with limits history act.account act.moment act.command legal accepted.is_built (earlier-none (question_of limits history act) accepted.accepted));
+      ∙ orders-with limits history act.account act.moment act.command legal (earlier-none (question_of limits history act) accepted.accepted));
   markets = λ c. markets' c ∙ (ap (λ b. b || list_any (λ market. market == c) (opened_by act.command)) (are.markets c) ∙ sym (market-more history act c));
   nonces = λ a. omega (arith, nonces' a, are.nonces a, nonce-more history act a);
   limit = limit' ∙ are.limit;
@@ -237,12 +258,15 @@ orders-empty limits table history none no_orders no_markets zero_nonces limit =
 
 -- an order is placed by an act, and a nonce raised by one
 placed-few : (history : List Act) → length (placed history) ≤ length history
-placed-few [] = omega arith
-placed-few (act ∷ acts) = omega (arith, placed-few acts, one act.account act.command, length-append (placed_by act.account act.command) (placed acts))
+placed-few history = omega (arith, so_far blank history)
   where
     one : (account : ℕ) (command : Command) → length (placed_by account command) ≤ 1
-    one account (Place market set side making taking expires nonce fee) = omega arith
+    one account (Place market set side making taking expires number fee) = omega arith
     one account command = omega arith
+
+    so_far : (b : Book) (acts : List Act) → length (fold entered b acts).placed ≤ length b.placed + length acts
+    so_far b [] = omega arith
+    so_far b (act ∷ acts) = omega (arith, so_far (entered b act) acts, one act.account act.command, length-append b.placed (placed_by act.account act.command))
 
 nonce-few : (history : List Act) (a : ℕ) → nonce history a ≤ length history
 nonce-few [] a = omega arith
@@ -255,13 +279,6 @@ nonce-few (act ∷ acts) a = omega (arith, nonce-few acts a, one ((act.account =
 or-not : (b : Bool) → not b ≡ false → b ≡ true
 or-not true e = refl
 or-not false e = cc
-
-open-of : (o : OrderView) → shut (Some o) ≡ None → is_open o ≡ true
-open-of o none = by (is_open o) none
-  where
-    by : (b : Bool) → cond b None (Some o.filled) ≡ None → b ≡ true
-    by true e = refl
-    by false e = cc
 
 may-trade : (limits : Bounds) (table : OrdersView) (history : List Act) (account moment : ℕ) (command : Command) → AreNone (earlier (question_of limits history (record { account = account; command = command; moment = moment })))
     → AreOrdersOf limits table history → length history < MAX_HISTORY → 0 < table.room → MayTrade table account command
@@ -281,13 +298,14 @@ may-trade limits table history account moment (Place market set side making taki
     )
 may-trade limits table history account moment (Cancel order) none are below room =
     let q = question_of limits history (record { account = account; command = Cancel order; moment = moment }) in
-    let there = inside history order (accepted-order q none) in
-    elim ((slice_get_cases (orders history) order).1) [
-      | inl found ↦
-          let opened : is_open found.0 ≡ true = open-of found.0 (ap shut (sym found.2) ∙ accepted-open q none) in
-          subst (λ (o : Option OrderView). MatchOption o ⊥ (λ x. is_open x ≡ true)) (sym (ap (λ (os : List OrderView). slice_get os order) are.orders ∙ found.2)) opened
-      | inr past ↦ absurd (omega (arith, past.0, there, orders-many history 0 (placed history)))
-    ]
+    subst (λ (os : List OrderView). MatchOption (slice_get os order) ⊥ (λ o. is_open o ≡ true)) (sym are.orders) (named-open (orders history) order (accepted-order q none) (accepted-open q none))
+may-trade limits table history account moment (Lapse order) none are below room =
+    let q = question_of limits history (record { account = account; command = Lapse order; moment = moment }) in
+    subst (λ (os : List OrderView). MatchOption (slice_get os order) ⊥ (λ o. is_open o ≡ true)) (sym are.orders) (named-open (orders history) order (accepted-order q none) (accepted-open q none))
+may-trade limits table history account moment (Match taker fill makers) none are below room =
+    let q = question_of limits history (record { account = account; command = Match taker fill makers; moment = moment }) in
+    subst (λ (os : List OrderView). MayFillAll os ((taker, fill) ∷ makers)) (sym are.orders)
+    (may-match (orders history) taker fill makers (accepted-order q none) (accepted-open q none) (accepted-others q none) (accepted-once q none) (accepted-left q none))
 may-trade limits table history account moment Bump none are below room = omega (arith, are.nonces account, nonce-few history account, below)
 may-trade limits table history account moment command none are below room = tt
 

@@ -12,14 +12,15 @@ use Rattle.command_words.specs.Ranges.{is_short}
 use Rattle.command_words.specs.declared.command.Command.{Command}
 use Rattle.command_words.specs.declared.command.Command.TheVariants.{Deposit, Split, Merge, Move, Redeem, Place}
 use Rattle.command_words.specs.declared.refusal.Refusal.{Refusal}
-use Rattle.command_words.specs.declared.refusal.Refusal.TheVariants.{NotAllowed, NoCondition, AlreadyPrepared, TableFull, BadSet, BadPartition, Held, TooDeep, AlreadyReported, BadPayouts, NotReported, NoEvent, Determined, NoMarket, NoOrder, NotOpen, Unfunded, VaultLimit, SupplyLimit, EntriesLimit, HistoryFull, Memory}
+use Rattle.command_words.specs.declared.refusal.Refusal.TheVariants.{NotAllowed, NoCondition, AlreadyPrepared, TableFull, BadSet, BadPartition, Held, TooDeep, AlreadyReported, BadPayouts, NotReported, NoEvent, Determined, NoMarket, ExchangeShort, TooLittle, Unfunded, VaultLimit, SupplyLimit, EntriesLimit, HistoryFull, Memory}
 use Rattle.ledger_book.specs.Staging.{oversupplied}
 use Rattle.settle_core.specs.Book.{book, conditions, events, postings, postings_of, told}
 use Rattle.settle_core.specs.Keys.{key_of, sets_of, is_held, most_pairs}
 use Rattle.settle_core.specs.Legal.{IsPlannable}
-use Rattle.settle_core.specs.Orders.{is_market, orders}
-use Rattle.settle_core.specs.Postings.{balance, supply, vault, deposit_of}
-use Rattle.settle_core.specs.Refusals.{Question, where_, may_ask, may_end, not_allowed, names_none, no_condition, prepares_again, opens_again, already_prepared, is_above_table, is_above_orders, table_full, names_bad_set, bad_set, names_no_partition, bad_partition, already_held, too_deep, reports_again, already_reported, reports_badly, bad_payouts, redeems_early, not_reported, names_no_event, no_event, winner_before, determined, names_no_market, no_market, names_no_order, no_order, shut_by, not_open, order_expired, nonce_old, self_match, repeated_order, wrong_pair, not_crossing, overfill, exchange_short, too_little, still_funded, short_of, unfunded, is_above_vault, vault_limit, supply_limit, is_above_entries, entries_limit, history_full}
+use Rattle.settle_core.specs.OrderRules.{at_first, never_placed, of_makers, orders_changed, orders_matched, orders_named, overfilled, own, repeats, shut, unpaired, where_}
+use Rattle.settle_core.specs.Orders.{is_market, order_state, orders, placed}
+use Rattle.settle_core.specs.Postings.{supply, vault, deposit_of}
+use Rattle.settle_core.specs.Refusals.{Question, may_ask, may_end, not_allowed, names_none, no_condition, prepares_again, opens_again, already_prepared, is_above_table, is_above_orders, table_full, names_bad_set, bad_set, names_no_partition, bad_partition, already_held, too_deep, reports_again, already_reported, reports_badly, bad_payouts, redeems_early, not_reported, names_no_event, no_event, winner_before, determined, names_no_market, no_market, no_order, not_open, order_expired, nonce_old, self_match, repeated_order, wrong_pair, not_crossing, overfill, exchange_short, little_by, too_little, still_funded, short_by, short_of, unfunded, is_above_vault, vault_limit, supply_limit, is_above_entries, entries_limit, history_full}
 use Rattle.settle_core.specs.Verdict.{verdict, first_some, AnsweredBy}
 
 -- a call that refuses by the verdict is answered by it
@@ -32,7 +33,7 @@ abbrev pub AreNone : {X : Type 0} → List (Option X) → Type 0
 AreNone [] = Unit {0}
 AreNone (o ∷ os) = (o ≡ None) × AreNone os
 
-first_some-all : {X : Type 0} (os : List (Option X)) → first_some os ≡ None → AreNone os
+pub first_some-all : {X : Type 0} (os : List (Option X)) → first_some os ≡ None → AreNone os
 first_some-all [] none = tt
 first_some-all (Some x ∷ os) none = cc
 first_some-all (None ∷ os) none = (refl, first_some-all os none)
@@ -52,7 +53,18 @@ earlier q =
 abbrev pub last : Question → List (Option Refusal)
 last q = supply_limit q ∷ entries_limit q ∷ history_full q ∷ []
 
--- of a list and another behind it the first that is there
+-- Of a list and another behind it the first that is there: that of the one, or else that of the other.
+pub front-some : {X : Type 0} (os ps : List (Option X)) (x : X) → first_some os ≡ Some x → first_some (os ++ ps) ≡ Some x
+front-some [] ps x is = cc
+front-some (Some y ∷ os) ps x is = is
+front-some (None ∷ os) ps x is = front-some os ps x is
+
+pub front-past : {X : Type 0} (os ps : List (Option X)) → first_some os ≡ None → first_some (os ++ ps) ≡ first_some ps
+front-past [] ps none = refl
+front-past (Some y ∷ os) ps none = cc
+front-past (None ∷ os) ps none = front-past os ps none
+
+-- where none is there, none is on either side
 front-none : {X : Type 0} (os ps : List (Option X)) → first_some (os ++ ps) ≡ None → AreNone os
 front-none [] ps none = tt
 front-none (Some x ∷ os) ps none = cc
@@ -73,7 +85,7 @@ unfolding verdict
 last-none q none = behind-none (earlier q) (last q) none
 
 -- a condition whose refusal isn't there doesn't hold
-where_-none : (holds : Bool) (refusal : Refusal) → where_ holds refusal ≡ None → holds ≡ false
+pub where_-none : (holds : Bool) (refusal : Refusal) → where_ holds refusal ≡ None → holds ≡ false
 where_-none true refusal none = cc
 where_-none false refusal none = refl
 
@@ -131,15 +143,48 @@ accepted-open_market q all =
     let is : no_market q ≡ None = assumption (all) in
     where_-none _ NoMarket is
 
-pub accepted-order : (q : Question) → AreNone (earlier q) → names_no_order (orders q.history) q.command ≡ false
+pub accepted-order : (q : Question) → AreNone (earlier q) → never_placed (order_state q.history) 0 (orders_named q.command) ≡ None
 accepted-order q all =
     let is : no_order q ≡ None = assumption (all) in
-    where_-none _ (NoOrder 0) is
+    is
 
-pub accepted-open : (q : Question) → AreNone (earlier q) → shut_by (orders q.history) q.command ≡ None
+pub accepted-open : (q : Question) → AreNone (earlier q) → at_first (order_state q.history) shut 0 (orders_changed q.command) ≡ None
 accepted-open q all =
     let is : not_open q ≡ None = assumption (all) in
-    map-none (λ filled. NotOpen filled 0) (shut_by (orders q.history) q.command) is
+    is
+
+-- the makers of a match aren't of its taker's account, each is named once, and can be matched with the taker
+pub accepted-others : (q : Question) → AreNone (earlier q) → of_makers (order_state q.history) own q.command ≡ None
+accepted-others q all =
+    let is : self_match q ≡ None = assumption (all) in
+    is
+
+pub accepted-once : (q : Question) → AreNone (earlier q) → repeats q.command ≡ None
+accepted-once q all =
+    let is : repeated_order q ≡ None = assumption (all) in
+    is
+
+pub accepted-pairs : (q : Question) → AreNone (earlier q) → of_makers (order_state q.history) unpaired q.command ≡ None
+accepted-pairs q all =
+    let is : wrong_pair q ≡ None = assumption (all) in
+    is
+
+-- of each order of a match as much as its fill is left
+pub accepted-left : (q : Question) → AreNone (earlier q) → at_first (order_state q.history) overfilled 0 (orders_matched q.command) ≡ None
+accepted-left q all =
+    let is : overfill q ≡ None = assumption (all) in
+    is
+
+-- no more goes out with a match than comes in, and its taker gets what its limit wants
+pub accepted-flows : (q : Question) → AreNone (earlier q) → short_by (placed q.history) q.command ≡ None
+accepted-flows q all =
+    let is : exchange_short q ≡ None = assumption (all) in
+    map-none ExchangeShort (short_by (placed q.history) q.command) is
+
+pub accepted-proceeds : (q : Question) → AreNone (earlier q) → little_by (placed q.history) q.command ≡ None
+accepted-proceeds q all =
+    let is : too_little q ≡ None = assumption (all) in
+    map-none (λ (little : ℕ × ℕ). TooLittle little.1 little.0) (little_by (placed q.history) q.command) is
 
 -- an accepted command leaves every supply within its limit
 pub accepted-supply : (q : Question) → verdict q ≡ None → oversupplied (supply q.history) (postings_of (book q.history) q.account q.command) ≡ None
@@ -149,10 +194,10 @@ accepted-supply q none =
     map-none SupplyLimit (oversupplied (supply q.history) (postings_of (book q.history) q.account q.command)) within
 
 -- an accepted command takes what is there
-pub accepted-funds : (q : Question) → AreNone (earlier q) → short_of (conditions q.history) (events q.history) (balance q.history q.account) q.command ≡ None
+pub accepted-funds : (q : Question) → AreNone (earlier q) → short_of (book q.history) q.account q.command ≡ None
 accepted-funds q all =
     let funded : unfunded q ≡ None = assumption (all) in
-    map-none (λ (short : ℕ × ℕ). Unfunded short.1 short.0) (short_of (conditions q.history) (events q.history) (balance q.history q.account) q.command) funded
+    map-none (λ (short : ℕ × ℕ). Unfunded short.1 short.0) (short_of (book q.history) q.account q.command) funded
 
 -- an accepted command is one that its account may ask
 pub accepted-asked : (q : Question) → AreNone (earlier q) → not (may_ask (conditions q.history) (events q.history) q.account q.command) ≡ false

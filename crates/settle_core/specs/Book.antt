@@ -1,10 +1,10 @@
 -- What is read off a history, in one go over its acts: the conditions, what was reported on them, the events of questions
--- with what was answered to these, and what was posted.
+-- with what was answered to these, the orders as they were placed, and what was posted.
 -- Source: Gnosis Conditional Tokens, developer documentation; Polymarket, NegRiskAdapter, of events.
 use Rattle.std.specs.Prelude.{◌==◌, ℕ, ◌-◌, Bool, true, false, List, [], ◌∷◌, ◌++◌, length, fold, slice_get, slice_set, Option, Some, None, if◌then◌else◌}
 use Rattle.collection_keys.specs.Collections.{Pairs, root}
 use Rattle.command_words.specs.declared.command.Command.{Command}
-use Rattle.command_words.specs.declared.command.Command.TheVariants.{Deposit, Withdraw, Move, Prepare, Event, Split, Merge, Report, Answer, Redeem, Convert}
+use Rattle.command_words.specs.declared.command.Command.TheVariants.{Deposit, Withdraw, Move, Prepare, Event, Split, Merge, Report, Answer, Redeem, Convert, Match}
 use Rattle.command_words.specs.declared.act.Act.{Act}
 use Rattle.condition_table.specs.declared.facts.Facts.{Facts}
 use Rattle.convert_positions.specs.Converting.{convert_postings}
@@ -14,7 +14,10 @@ use Rattle.ledger_book.specs.Postings.{credit, debit, credits, debits}
 use Rattle.ledger_book.specs.declared.posting.Posting.{Posting}
 use Rattle.report_redeem.specs.Redeeming.{redeem_postings, redeem_sums}
 use Rattle.split_merge.specs.Splitting.{parts_of, split_postings, merge_postings}
+use Rattle.order_table.specs.declared.order.Placed.{Placed}
 use Rattle.settle_core.specs.Keys.{whole_in}
+use Rattle.settle_core.specs.Matches.{matched_in, parts_in}
+use Rattle.settle_core.specs.Placing.{placed_by}
 
 -- what was reported on a condition, or answered where it is a question's: a numerator for each of its slots
 pub record Payouts : Type 0 where
@@ -27,17 +30,18 @@ numerators_on [] condition = None
 numerators_on (r ∷ rs) condition = if r.condition == condition then Some r.numerators else numerators_on rs condition
 
 -- the conditions by their numbers, what was reported, what was answered, the events by their numbers, the questions of the
--- event of each conversion, and what was posted, the oldest first
+-- event of each conversion, the orders by their numbers, and what was posted, the oldest first
 pub record Book : Type 0 where
   pub conditions : List Facts
   pub reports : List Payouts
   pub answers : List Payouts
   pub events : List EventView
   pub conversions : List (List ℕ)
+  pub placed : List Placed
   pub postings : List Posting
 
 abbrev pub blank : Book
-blank = record { conditions = []; reports = []; answers = []; events = []; conversions = []; postings = [] }
+blank = record { conditions = []; reports = []; answers = []; events = []; conversions = []; placed = []; postings = [] }
 
 -- ---- what is posted
 
@@ -73,6 +77,7 @@ postings_of b a (Split parent condition sets amount) = split_postings a (whole_i
 postings_of b a (Merge parent condition sets amount) = merge_postings a (whole_in b.conditions parent condition sets) (parts_of parent condition sets) amount
 postings_of b a (Redeem parent condition sets) = redeemed_in b a parent condition sets (told_on b condition)
 postings_of b a (Convert event set amount) = converted_in (slice_get b.events event) a set amount
+postings_of b a (Match taker fill makers) = matched_in (slice_get b.placed taker) fill (parts_in b.placed makers)
 postings_of b a command = []
 
 -- whether a command may post something
@@ -84,6 +89,7 @@ posts (Split parent condition sets amount) = true
 posts (Merge parent condition sets amount) = true
 posts (Redeem parent condition sets) = true
 posts (Convert event set amount) = true
+posts (Match taker fill makers) = true
 posts command = false
 
 -- ---- what is prepared, reported, answered and converted, where a command is accepted
@@ -133,6 +139,7 @@ entered book act = record {
   answers = book.answers ++ answered_by book.events act.command;
   events = events_after (length book.conditions) book.events act.command;
   conversions = book.conversions ++ converted_by book.events act.command;
+  placed = book.placed ++ placed_by act.account act.command;
   postings = book.postings ++ postings_of book act.account act.command;
 }
 

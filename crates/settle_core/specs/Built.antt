@@ -1,7 +1,7 @@
 -- The commands that are carried out so far.
 use Rattle.std.specs.Prelude.{Bool, true, false}
 use Rattle.command_words.specs.declared.command.Command.{Command}
-use Rattle.command_words.specs.declared.command.Command.TheVariants.{Deposit, Withdraw, Move, Prepare, Event, Split, Merge, Report, Answer, Redeem, Convert, Market, Place, Cancel, Bump, Balance, Order, Vault}
+use Rattle.command_words.specs.declared.command.Command.TheVariants.{Deposit, Withdraw, Move, Prepare, Event, Split, Merge, Report, Answer, Redeem, Convert, Market, Place, Cancel, Bump, Match, Lapse, Balance, Order, Vault}
 
 abbrev pub is_built : Command → Bool
 is_built (Deposit to amount) = true
@@ -19,6 +19,8 @@ is_built (Market condition) = true
 is_built (Place market set side making taking expires nonce fee) = true
 is_built (Cancel order) = true
 is_built Bump = true
+is_built (Match taker fill makers) = true
+is_built (Lapse order) = true
 is_built (Balance holder key) = true
 is_built (Order order) = true
 is_built Vault = true

@@ -4,7 +4,7 @@ use Rattle.condition_sets.specs.declared.amount.TheConstants.{MAX_AMOUNT}
 use Rattle.command_words.specs.declared.act.TheConstants.{MAX_HISTORY}
 use Rattle.command_words.specs.declared.act.Act.{Act}
 use Rattle.command_words.specs.declared.command.Command.{Command}
-use Rattle.command_words.specs.declared.command.Command.TheVariants.{Prepare, Event, Report, Answer, Market, Place, Cancel, Bump}
+use Rattle.command_words.specs.declared.command.Command.TheVariants.{Prepare, Event, Report, Answer, Market, Place, Cancel, Bump, Match, Lapse}
 use Rattle.settle_core.specs.Book.{answer_of, conditions, events, postings, told}
 use Rattle.settle_core.specs.Bounds.{Bounds}
 use Rattle.collection_keys.specs.Collections.{Pairs}
@@ -12,11 +12,12 @@ use Rattle.event_table.specs.Events.{AreNew, EventView, EventsView, MayAnswer, q
 use Rattle.ledger_book.specs.Entries.{HasEntries}
 use Rattle.ledger_book.specs.Ledger.{LedgerView, amount_at, supply_at, names}
 use Rattle.ledger_book.specs.Postings.{credits, debits, minted, burnt}
-use Rattle.order_table.specs.Orders.{OrderView, OrdersView, after_end, is_market, is_open, nonce_of, open_in}
+use Rattle.order_table.specs.Orders.{OrderView, OrdersView, MayFill, after_end, after_fill, is_market, is_open, nonce_of, open_in}
 use Rattle.order_table.specs.declared.order.Placed.{Placed}
 use Rattle.order_table.specs.declared.orders.TheConstants.{MAX_NONCE, MAX_ORDERS}
 use Rattle.settle_core.specs.Legal.{IsLegal}
-use Rattle.settle_core.specs.Orders.{is_market as is_market_in, nonce, orders, placed_by}
+use Rattle.settle_core.specs.Orders.{is_market as is_market_in, nonce, orders}
+use Rattle.settle_core.specs.Placing.{placed_by}
 use Rattle.settle_core.specs.Postings.{vault}
 use Rattle.condition_table.specs.Conditions.{ConditionsView, numerators_at, place_of, IsReport}
 use Rattle.condition_table.specs.declared.facts.Facts.{Facts}
@@ -89,24 +90,45 @@ pub record AreOrdersOf (limits : Bounds) (table : OrdersView) (history : List Ac
   pub nonces : (account : ℕ) → nonce_of table account ≡ nonce history account
   pub limit : table.limit ≡ limits.orders
 
+-- the orders of a table, where some of them are filled by so much more, one after another
+abbrev pub filled_at : List OrderView → ℕ → ℕ → Option OrderView → List OrderView
+filled_at orders order fill None = orders
+filled_at orders order fill (Some o) = slice_set orders order (after_fill o fill)
+
+abbrev pub filled_in : List OrderView → List (ℕ × ℕ) → List OrderView
+filled_in orders [] = orders
+filled_in orders (n ∷ ns) = filled_in (filled_at orders n.0 n.1 (slice_get orders n.0)) ns
+
+-- each may be filled so, where those before it were
+abbrev pub MayFillAll : List OrderView → List (ℕ × ℕ) → Type 0
+MayFillAll orders [] = ⊤
+MayFillAll orders (n ∷ ns) = MatchOption (slice_get orders n.0) ⊥ (λ o. MayFill o n.1) × MayFillAll (filled_at orders n.0 n.1 (slice_get orders n.0)) ns
+
 -- A command of an account may be entered into the table of orders: it opens a market that is none yet, places an order in a
--- market where one more may be open and for which there is room, ends one that is open, or raises a nonce.
+-- market where one more may be open and for which there is room, ends one that is open, raises a nonce, or fills orders that
+-- have as much left.
 abbrev pub MayTrade : OrdersView → ℕ → Command → Type 0
 MayTrade table account (Market condition) = is_market table condition ≡ false
 MayTrade table account (Place market set side making taking expires nonce fee) =
     (is_market table market ≡ true) × (open_in table.orders market < table.limit) × (length table.orders < MAX_ORDERS) × (0 < table.room) × (((set == 1) || (set == 2)) ≡ true)
 MayTrade table account (Cancel order) = MatchOption (slice_get table.orders order) ⊥ (λ o. is_open o ≡ true)
+MayTrade table account (Lapse order) = MatchOption (slice_get table.orders order) ⊥ (λ o. is_open o ≡ true)
 MayTrade table account Bump = nonce_of table account < MAX_NONCE
+MayTrade table account (Match taker fill makers) = MayFillAll table.orders ((taker, fill) ∷ makers)
 MayTrade table account command = ⊤
 
--- the orders of a table after a command that is accepted
+-- a table where an order is ended
 abbrev pub ended_in : List OrderView → ℕ → Option OrderView → List OrderView
 ended_in orders order None = orders
 ended_in orders order (Some o) = slice_set orders order (after_end o)
 
+-- orders as they are placed: nothing of them is filled, and none is ended
 abbrev pub views_of : List Placed → List OrderView
 views_of placed = map (λ order. record { placed = order; filled = 0; ended = false }) placed
 
+-- the orders of a table after a command that is accepted
 abbrev pub orders_after : ℕ → List OrderView → Command → List OrderView
 orders_after account orders (Cancel order) = ended_in orders order (slice_get orders order)
+orders_after account orders (Lapse order) = ended_in orders order (slice_get orders order)
+orders_after account orders (Match taker fill makers) = filled_in orders ((taker, fill) ∷ makers)
 orders_after account orders command = orders ++ views_of (placed_by account command)

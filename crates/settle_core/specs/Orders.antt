@@ -1,15 +1,16 @@
--- Markets, orders and nonces, read off a history beside its book: nothing of them changes what anybody holds.
+-- Markets, what became of the orders, and nonces, read off a history beside its book: nothing of them but a match changes
+-- what anybody holds.
 -- Source: Polymarket CTF Exchange, first published source, of orders, their fills and nonces; markets and the numbers of
 -- orders are this project's own.
-use Rattle.std.specs.Prelude.{◌==◌, ℕ, suc, ◌+◌, ◌&&◌, Bool, true, false, not, nat_lt, if◌then◌else◌, List, [], ◌∷◌, sum_by}
+use Rattle.std.specs.Prelude.{◌==◌, ℕ, suc, ◌+◌, ◌&&◌, Bool, true, false, if◌then◌else◌, List, [], ◌∷◌, sum_by, slice_get, Option, option_map}
 use Rattle.std.specs.List.{flat_map, list_any}
 use Rattle.command_words.specs.declared.act.Act.{Act}
 use Rattle.command_words.specs.declared.command.Command.{Command}
 use Rattle.command_words.specs.declared.command.Command.TheVariants.{Market, Place, Cancel, Bump, Match, Lapse}
-use Rattle.order_rules.specs.declared.token.Token.{Token}
-use Rattle.order_rules.specs.declared.token.Token.TheVariants.{Yes, No}
-use Rattle.order_table.specs.Orders.{OrderView}
+use Rattle.order_table.specs.Orders.{OrderView, state_of}
+use Rattle.order_table.specs.declared.order.OrderState.{OrderState}
 use Rattle.order_table.specs.declared.order.Placed.{Placed}
+use Rattle.settle_core.specs.Book.{book}
 
 -- ---- markets
 
@@ -26,18 +27,9 @@ is_market history condition = list_any (λ market. market == condition) (markets
 
 -- ---- orders
 
--- the token of a set: 1 for YES, and 2 for NO
-abbrev pub token_of : ℕ → Token
-token_of set = if set == 1 then Yes else No
-
-abbrev pub placed_by : ℕ → Command → List Placed
-placed_by account (Place market set side making taking expires nonce fee) =
-    record { account = account; market = market; token = token_of set; limit = record { side = side; making = making; taking = taking }; expires = expires; nonce = nonce; rate = fee } ∷ []
-placed_by account command = []
-
 -- the orders as they were placed, numbered from 0
 abbrev pub placed : List Act → List Placed
-placed history = flat_map (λ act. placed_by act.account act.command) history
+placed history = (book history).placed
 
 -- what a match fills of an order, as its taker or as one of its makers
 abbrev pub fill_of : ℕ → ℕ × ℕ → ℕ
@@ -68,9 +60,9 @@ orders_from history number (order ∷ orders) = record { placed = order; filled 
 abbrev pub orders : List Act → List OrderView
 orders history = orders_from history 0 (placed history)
 
--- an order has expired at a moment
-abbrev pub has_expired : ℕ → ℕ → Bool
-has_expired expires now = not (expires == 0) && nat_lt expires now
+-- what is known of the order of a number, where it was placed
+abbrev pub order_state : List Act → ℕ → Option OrderState
+order_state history order = option_map state_of (slice_get (orders history) order)
 
 -- ---- nonces
 
@@ -92,4 +84,5 @@ trades (Market condition) = true
 trades (Place market set side making taking expires nonce fee) = true
 trades (Cancel order) = true
 trades Bump = true
+trades (Lapse order) = true
 trades command = false

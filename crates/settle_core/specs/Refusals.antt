@@ -5,18 +5,24 @@ use Rattle.condition_sets.specs.declared.amount.TheConstants.{MAX_AMOUNT}
 use Rattle.condition_sets.specs.declared.names.TheConstants.{OPERATOR, EXCHANGE}
 use Rattle.command_words.specs.Command.{makes_act}
 use Rattle.command_words.specs.declared.command.Command.{Command}
-use Rattle.command_words.specs.declared.command.Command.TheVariants.{Deposit, Withdraw, Move, Prepare, Event, Split, Merge, Report, Answer, Redeem, Convert, Market, Place, Cancel, Order}
+use Rattle.command_words.specs.declared.command.Command.TheVariants.{Deposit, Withdraw, Move, Prepare, Event, Split, Merge, Report, Answer, Redeem, Convert, Market, Place, Cancel, Match, Lapse}
 use Rattle.command_words.specs.declared.act.Act.{Act}
 use Rattle.command_words.specs.declared.refusal.Refusal.{Refusal}
-use Rattle.command_words.specs.declared.refusal.Refusal.TheVariants.{NotAllowed, NoCondition, AlreadyPrepared, TableFull, BadSet, BadPartition, Held, TooDeep, AlreadyReported, BadPayouts, NotReported, NoEvent, Determined, NoMarket, NoOrder, NotOpen, OrderExpired, NonceOld, Unfunded, VaultLimit, SupplyLimit, EntriesLimit, HistoryFull}
+use Rattle.command_words.specs.declared.refusal.Refusal.TheVariants.{NotAllowed, NoCondition, AlreadyPrepared, TableFull, BadSet, BadPartition, Held, TooDeep, AlreadyReported, BadPayouts, NotReported, NoEvent, Determined, NoMarket, OrderExpired, NonceOld, Unfunded, ExchangeShort, TooLittle, VaultLimit, SupplyLimit, EntriesLimit, HistoryFull}
 use Rattle.condition_table.specs.declared.facts.Facts.{Facts}
 use Rattle.convert_positions.specs.Converting.{short_question}
 use Rattle.convert_positions.specs.Questions.{conditions_in}
 use Rattle.event_table.specs.Events.{EventView, question_in, winner_in}
-use Rattle.settle_core.specs.Book.{book, conditions, events, postings, postings_of, told}
-use Rattle.order_table.specs.Orders.{OrderView, is_open, open_in}
+use Rattle.settle_core.specs.Book.{Book, book, conditions, events, held_in, postings, postings_of, told}
+use Rattle.match_kinds.specs.Settling.{unfunded as unfunded_part}
+use Rattle.match_kinds.specs.declared.part.Part.{Part}
+use Rattle.order_table.specs.Orders.{OrderView, open_in}
+use Rattle.order_table.specs.declared.order.OrderState.{OrderState}
+use Rattle.order_table.specs.declared.order.Placed.{Placed}
 use Rattle.settle_core.specs.Bounds.{Bounds}
-use Rattle.settle_core.specs.Orders.{has_expired, is_market, nonce, orders}
+use Rattle.settle_core.specs.Matches.{little_in, part_of, parts_in, short_in}
+use Rattle.settle_core.specs.OrderRules.{at_first, expired, has_expired, never_placed, of_makers, orders_changed, orders_matched, orders_named, outdated, overfilled, own, repeats, shut, still_funded_by, uncrossed, unpaired, where_}
+use Rattle.settle_core.specs.Orders.{is_market, nonce, order_state, orders, placed}
 use Rattle.condition_table.specs.Conditions.{place_of}
 use Rattle.settle_core.specs.Keys.{is_unprepared, is_improper, key_of, sets_of, key_is_unprepared, sets_are_unprepared, key_is_improper, sets_are_improper, is_no_partition, is_held, most_pairs, whole_in}
 use Rattle.settle_core.specs.Postings.{balance, supply, vault}
@@ -35,10 +41,6 @@ pub record Question : Type 0 where
   pub account : ℕ
   pub command : Command
   pub moment : ℕ
-
--- the refusal, where its condition holds
-abbrev pub where_ : Bool → Refusal → Option Refusal
-where_ holds refusal = if holds then Some refusal else None
 
 -- ---- 5 to 12
 
@@ -62,6 +64,8 @@ may_ask prepared made account (Report condition payouts) = not (account == EXCHA
 may_ask prepared made account (Answer event question won) = not (account == EXCHANGE) && may_answer (slice_get made event) account
 may_ask prepared made account (Market condition) = account == OPERATOR
 may_ask prepared made account (Place market set side making taking expires nonce fee) = not (account == OPERATOR) && not (account == EXCHANGE)
+may_ask prepared made account (Match taker fill makers) = account == OPERATOR
+may_ask prepared made account (Lapse order) = account == OPERATOR
 may_ask prepared made account command = not (account == EXCHANGE)
 
 -- an order's maker alone may cancel it, where it was placed
@@ -236,58 +240,45 @@ abbrev pub no_market : Question → Option Refusal
 no_market q = where_ (names_no_market (is_market q.history) q.command) NoMarket
 
 -- an order that a command names was never placed
-abbrev pub names_no_order : List OrderView → Command → Bool
-names_no_order placed (Cancel order) = is_none (slice_get placed order)
-names_no_order placed (Order order) = is_none (slice_get placed order)
-names_no_order placed command = false
-
 abbrev pub no_order : Question → Option Refusal
-no_order q = where_ (names_no_order (orders q.history) q.command) (NoOrder 0)
+no_order q = never_placed (order_state q.history) 0 (orders_named q.command)
 
--- an order that is ended or filled, with what was filled of it
-abbrev pub shut : Option OrderView → Option ℕ
-shut None = None
-shut (Some order) = if is_open order then None else Some order.filled
-
-abbrev pub shut_by : List OrderView → Command → Option ℕ
-shut_by placed (Cancel order) = shut (slice_get placed order)
-shut_by placed command = None
-
+-- an order that it would end or fill is ended or filled already
 abbrev pub not_open : Question → Option Refusal
-not_open q = option_map (λ filled. NotOpen filled 0) (shut_by (orders q.history) q.command)
+not_open q = at_first (order_state q.history) shut 0 (orders_changed q.command)
 
--- a new order has expired
-abbrev pub expires_before : ℕ → Command → Bool
-expires_before now (Place market set side making taking expires nonce fee) = has_expired expires now
-expires_before now command = false
+-- a new order has expired, or one of a match has
+abbrev pub expired_in : (ℕ → Option OrderState) → ℕ → Command → Option Refusal
+expired_in known now (Place market set side making taking expires nonce fee) = where_ (has_expired expires now) (OrderExpired 0)
+expired_in known now command = at_first known (expired now) 0 (orders_matched command)
 
 abbrev pub order_expired : Question → Option Refusal
-order_expired q = where_ (expires_before q.moment q.command) (OrderExpired 0)
+order_expired q = expired_in (order_state q.history) q.moment q.command
 
--- its nonce isn't its maker's present one
-abbrev pub has_other_nonce : ℕ → Command → Bool
-has_other_nonce present (Place market set side making taking expires nonce fee) = not (nonce == present)
-has_other_nonce present command = false
+-- the nonce of a new order, or of one of a match, isn't its maker's present one
+abbrev pub outdated_in : (ℕ → Option OrderState) → (ℕ → ℕ) → ℕ → Command → Option Refusal
+outdated_in known nonces account (Place market set side making taking expires nonce fee) = where_ (not (nonce == nonces account)) (NonceOld (nonces account) 0)
+outdated_in known nonces account command = at_first known (outdated nonces) 0 (orders_matched command)
 
 abbrev pub nonce_old : Question → Option Refusal
-nonce_old q = where_ (has_other_nonce (nonce q.history q.account) q.command) (NonceOld (nonce q.history q.account) 0)
+nonce_old q = outdated_in (order_state q.history) (nonce q.history) q.account q.command
 
--- ---- 23 to 27: no command that is carried out so far meets these
+-- ---- 23 to 27: a match's makers, and how much of its orders is left
 
 abbrev pub self_match : Question → Option Refusal
-self_match q = None
+self_match q = of_makers (order_state q.history) own q.command
 
 abbrev pub repeated_order : Question → Option Refusal
-repeated_order q = None
+repeated_order q = repeats q.command
 
 abbrev pub wrong_pair : Question → Option Refusal
-wrong_pair q = None
+wrong_pair q = of_makers (order_state q.history) unpaired q.command
 
 abbrev pub not_crossing : Question → Option Refusal
-not_crossing q = None
+not_crossing q = of_makers (order_state q.history) uncrossed q.command
 
 abbrev pub overfill : Question → Option Refusal
-overfill q = None
+overfill q = at_first (order_state q.history) overfilled 0 (orders_matched q.command)
 
 -- ---- 28 to 35
 
@@ -306,25 +297,41 @@ taken_by prepared (Split parent condition sets amount) = whole_in prepared paren
 taken_by prepared (Merge parent condition sets amount) = parts_of parent condition sets
 taken_by prepared command = []
 
--- the first of these places of which less is held, with what is held there; a conversion takes NO of each question of its set,
--- by the question's place in the event
-abbrev pub short_of : List Facts → List EventView → (Pairs → ℕ) → Command → Option (ℕ × ℕ)
-short_of prepared made held (Convert event set amount) = short_question held amount set (conditions_in made event)
-short_of prepared made held command = first_short held (amount_of command) (taken_by prepared command)
+-- the first part of a match that isn't funded, with what its account has
+abbrev pub unfunded_in : (ℕ → Pairs → ℕ) → Option Placed → ℕ → List Part → Option (ℕ × ℕ)
+unfunded_in held None fill makers = None
+unfunded_in held (Some taker) fill makers = unfunded_part held taker.market (part_of taker fill) makers
 
--- the caller holds less than what is taken
+-- the first place of which less is held than is taken, with what is held there; a conversion takes NO of each question of
+-- its set, by the question's place in the event, and a match what each of its parts pays
+abbrev pub short_of : Book → ℕ → Command → Option (ℕ × ℕ)
+short_of b a (Convert event set amount) = short_question (held_in b a) amount set (conditions_in b.events event)
+short_of b a (Match taker fill makers) = unfunded_in (held_in b) (slice_get b.placed taker) fill (parts_in b.placed makers)
+short_of b a command = first_short (held_in b a) (amount_of command) (taken_by b.conditions command)
+
+-- less is held than is taken
 abbrev pub unfunded : Question → Option Refusal
-unfunded q = option_map (λ short. Unfunded short.1 short.0) (short_of (conditions q.history) (events q.history) (balance q.history q.account) q.command)
+unfunded q = option_map (λ short. Unfunded short.1 short.0) (short_of (book q.history) q.account q.command)
 
--- no command that is carried out so far meets these three
+-- with a maker of a match more goes out of the exchange than came in
+abbrev pub short_by : List Placed → Command → Option ℕ
+short_by placed (Match taker fill makers) = short_in (slice_get placed taker) fill (parts_in placed makers)
+short_by placed command = None
+
 abbrev pub exchange_short : Question → Option Refusal
-exchange_short q = None
+exchange_short q = option_map ExchangeShort (short_by (placed q.history) q.command)
+
+-- its taker gets less than its limit wants
+abbrev pub little_by : List Placed → Command → Option (ℕ × ℕ)
+little_by placed (Match taker fill makers) = little_in (slice_get placed taker) fill (parts_in placed makers)
+little_by placed command = None
 
 abbrev pub too_little : Question → Option Refusal
-too_little q = None
+too_little q = option_map (λ little. TooLittle little.1 little.0) (little_by (placed q.history) q.command)
 
+-- an order that would lapse is live, and its maker has what is left of it
 abbrev pub still_funded : Question → Option Refusal
-still_funded q = None
+still_funded q = still_funded_by (order_state q.history) (nonce q.history) q.moment (balance q.history) q.command
 
 -- the vault would hold more than it may
 abbrev pub is_above_vault : ℕ → Command → Bool

@@ -1,18 +1,20 @@
 -- The replies, and what the history is after them.
 use Rattle.std.specs.Prelude.{◌≡◌, ℕ, ◌+◌, Bool, true, false, MatchBool, if◌then◌else◌, List, [], ◌∷◌, ◌++◌, length, slice_get, Option, Some, None}
 use Rattle.command_words.specs.declared.command.Command.{Command}
-use Rattle.command_words.specs.declared.command.Command.TheVariants.{Prepare, Event, Redeem, Convert, Place, Bump, Balance, Order, Vault}
+use Rattle.command_words.specs.declared.command.Command.TheVariants.{Prepare, Event, Redeem, Convert, Place, Bump, Match, Balance, Order, Vault}
 use Rattle.command_words.specs.declared.act.Act.{Act}
 use Rattle.command_words.specs.declared.refusal.Refusal.{Refusal}
 use Rattle.command_words.specs.declared.refusal.Refusal.TheVariants.{Memory}
 use Rattle.command_words.specs.declared.reply.Reply.{Reply}
-use Rattle.command_words.specs.declared.reply.Reply.TheVariants.{Done, Prepared, EventMade, Redeemed, Converted, Placed, Bumped, Balanced, Ordered, Vaulted, Refused}
+use Rattle.command_words.specs.declared.reply.Reply.TheVariants.{Done, Prepared, EventMade, Redeemed, Converted, Placed, Bumped, Matched, Balanced, Ordered, Vaulted, Refused}
 use Rattle.command_words.specs.Command.{makes_act}
 use Rattle.convert_positions.specs.Converting.{cash_of, out_of}
 use Rattle.event_table.specs.Events.{EventView}
+use Rattle.match_kinds.specs.declared.settle.MatchSums.{MatchSums}
 use Rattle.settle_core.specs.Book.{book, conditions, events, sums_in, told}
 use Rattle.order_table.specs.Orders.{OrderView, is_open}
-use Rattle.settle_core.specs.Orders.{nonce, orders}
+use Rattle.settle_core.specs.Matches.{parts_in, sums_in as match_sums}
+use Rattle.settle_core.specs.Orders.{nonce, orders, placed}
 use Rattle.settle_core.specs.Postings.{vault, balance}
 use Rattle.settle_core.specs.Refusals.{Question}
 use Rattle.settle_core.specs.Verdict.{verdict}
@@ -27,6 +29,11 @@ abbrev pub ordered_reply : ℕ → Option OrderView → Reply
 ordered_reply rests None = Ordered 0 false rests
 ordered_reply rests (Some order) = Ordered order.filled (is_open order) rests
 
+-- the reply to a match: the taker's fee, what it got before that, and its refund
+abbrev pub matched_reply : ℕ → Option MatchSums → Reply
+matched_reply lsn None = Done lsn
+matched_reply lsn (Some sums) = Matched sums.fee sums.got lsn sums.refund
+
 -- the reply to an accepted command of an account, over the acts before it
 abbrev pub accepted_reply : List Act → ℕ → Command → Reply
 accepted_reply history a (Prepare oracle question slots) = Prepared (length (conditions history)) (length history)
@@ -35,6 +42,7 @@ accepted_reply history a (Redeem parent condition sets) = Redeemed (length histo
 accepted_reply history a (Convert event set amount) = converted_reply (length history) (slice_get (events history) event) set amount
 accepted_reply history a (Place market set side making taking expires nonce fee) = Placed (length history) (length (orders history))
 accepted_reply history a Bump = Bumped (length history) (nonce history a + 1)
+accepted_reply history a (Match taker fill makers) = matched_reply (length history) (match_sums (slice_get (placed history) taker) fill (parts_in (placed history) makers))
 accepted_reply history a (Order order) = ordered_reply (length history) (slice_get (orders history) order)
 accepted_reply history a (Balance holder key) = Balanced (balance history holder key) (length history)
 accepted_reply history a Vault = Vaulted (length history) (vault history)

@@ -8,7 +8,9 @@ mod cancel;
 mod convert;
 mod deposit;
 mod event;
+mod lapse;
 mod market;
+mod match_;
 mod merge;
 mod move_;
 mod order;
@@ -28,7 +30,7 @@ ghost use Rattle.command_words.specs.declared.reply.Reply.TheVariants.{Done};
 ghost use Rattle.order_table.specs.Orders.{is_market, nonce_of};
 ghost use Rattle.settle_core.specs.Book.{events_after, posts, prepared_by};
 ghost use Rattle.settle_core.specs.Exchange.{asked, numerators_of, AreChangesOf};
-ghost use Rattle.settle_core.specs.Kept.{MayEnter, MayTrade, numerators_after, orders_after, questions_made};
+ghost use Rattle.settle_core.specs.Kept.{MayEnter, MayFillAll, MayTrade, filled_in, numerators_after, orders_after, questions_made};
 ghost use Rattle.settle_core.specs.Legal.{IsPlannable};
 ghost use Rattle.settle_core.specs.Orders.{is_bump, opened_by, trades};
 ghost use Rattle.settle_core.specs.Verdict.{verdict, AnsweredBy};
@@ -36,7 +38,7 @@ ghost use Rattle.settle_core.specs.Verdict.{verdict, AnsweredBy};
 use crate::changes::Changes;
 use crate::exchange::Exchange;
 use command_words::{Command, Refusal};
-use condition_sets::{AccountId, Bits, NoMemory};
+use condition_sets::{AccountId, Bits, NoMemory, OrderId};
 use condition_table::Conditions;
 use event_table::Events;
 use ledger_book::Staged;
@@ -81,6 +83,11 @@ impl Exchange {
             Command::Convert { event, set, amount } => {
                 self.changes_of_convert(account, *event, *set, *amount, now)
             }
+            Command::Match {
+                taker,
+                fill,
+                makers,
+            } => self.changes_of_match(account, *taker, *fill, makers, now),
             _ => self.changes_of_tables(account, command, now),
         }
     }
@@ -139,6 +146,7 @@ impl Exchange {
             Command::Place { .. } => self.changes_of_place(account, command, now),
             Command::Cancel { order } => self.changes_of_cancel(account, *order, now),
             Command::Bump => self.changes_of_bump(account, now),
+            Command::Lapse { order } => self.changes_of_lapse(account, *order, now),
             _ => unreachable!(),
         }
     }
@@ -220,8 +228,8 @@ pub(crate) fn enter(
     }
 }
 
-/// Enters an accepted command into the table of orders: the market that it opens, the order that it places or ends, or the
-/// nonce that it raises. It takes no memory.
+/// Enters an accepted command into the table of orders: the market that it opens, the order that it places or ends, the nonce
+/// that it raises, or the orders that it fills. It takes no memory.
 pub(crate) fn trade(orders: &mut Orders, account: AccountId, command: &Command)
     requires ranges { in_ranges command.now ≡ true }
     requires may { MayTrade orders.old account command.now }
@@ -240,7 +248,31 @@ pub(crate) fn trade(orders: &mut Orders, account: AccountId, command: &Command)
             None => unreachable!(),
         },
         Command::Cancel { order } => orders.end(*order),
+        Command::Lapse { order } => orders.end(*order),
+        Command::Match {
+            taker,
+            fill,
+            makers,
+        } => {
+            orders.fill(*taker, *fill);
+            fill_all(orders, makers.as_slice());
+        }
         Command::Bump => orders.bump(account),
         _ => {}
+    }
+}
+
+/// Fills some orders, each by so much more.
+fn fill_all(orders: &mut Orders, fills: &[(OrderId, u64)])
+    requires { MayFillAll orders.old.orders fills.now }
+
+    ensures orders { orders.new.orders ≡ filled_in orders.old.orders fills.now }
+    ensures markets { orders.new.markets ≡ orders.old.markets }
+    ensures nonces { orders.new.nonces ≡ orders.old.nonces }
+    ensures limit { orders.new.limit ≡ orders.old.limit }
+{
+    if let [first, rest @ ..] = fills {
+        orders.fill(first.0, first.1);
+        fill_all(orders, rest);
     }
 }

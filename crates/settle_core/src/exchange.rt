@@ -17,7 +17,8 @@ ghost use Rattle.settle_core.specs.Built.{is_built};
 ghost use Rattle.settle_core.specs.Exchange.{ExchangeView, asked, IsSame, AreChangesOf, IsPlanFor};
 ghost use Rattle.settle_core.specs.Legal.{IsAccepted, IsLegal, IsPlannable};
 ghost use Rattle.settle_core.specs.Postings.{vault, balance, supply};
-ghost use Rattle.settle_core.specs.Refusals.{where_, is_above_entries};
+ghost use Rattle.settle_core.specs.OrderRules.{where_};
+ghost use Rattle.settle_core.specs.Refusals.{is_above_entries};
 ghost use Rattle.settle_core.specs.Reply.{act_of, accepted_reply, reply_to};
 ghost use Rattle.settle_core.specs.Verdict.{verdict, first_some, AnsweredBy};
 

@@ -25,6 +25,8 @@ pub fn built(command: &Command) -> bool
         Command::Place { .. } => true,
         Command::Cancel { .. } => true,
         Command::Bump => true,
+        Command::Match { .. } => true,
+        Command::Lapse { .. } => true,
         Command::Balance { .. } => true,
         Command::Order { .. } => true,
         Command::Vault => true,

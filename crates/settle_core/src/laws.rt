@@ -15,6 +15,7 @@ ghost use Rattle.ledger_book.specs.Staging.{is_above_supply};
 ghost use Rattle.settle_core.specs.Book.{book, postings, postings_of};
 ghost use Rattle.settle_core.specs.Bounds.{Bounds, standard};
 ghost use Rattle.settle_core.specs.Coverage.{CanPay, outlook};
+ghost use Rattle.settle_core.specs.Fairness.{IsFair};
 ghost use Rattle.settle_core.specs.Legal.{IsLegal};
 ghost use Rattle.settle_core.specs.Postings.{balance, supply, held_by_all, vault};
 ghost use Rattle.settle_core.specs.Refusals.{Question};
@@ -49,6 +50,12 @@ pub fn cash_is_covered()
 pub fn supply_is_held()
     ensures { (limits : Bounds) (history : List Act) (k : Pairs) → IsLegal limits history → All (λ act. is_account act.account ≡ true) history
         → held_by_all history k ≡ supply history k }
+{}
+
+/// No order of a legal history is filled above what it makes, and none receives less for a fill, before its fee, than its limit
+/// rounded down.
+pub fn orders_get_their_limits()
+    ensures { (limits : Bounds) (history : List Act) → IsLegal limits history → IsFair history }
 {}
 
 /// The limits of the program.

@@ -12,11 +12,14 @@ mod forms;
 mod keys;
 pub mod laws;
 mod limits;
+mod orders;
 mod plan;
 mod replay;
+mod rules;
 
 pub use exchange::Exchange;
 pub use forms::built;
 pub use limits::Limits;
+pub use orders::OrderFacts;
 pub use plan::Plan;
 pub use replay::ReplayFault;

@@ -3,11 +3,13 @@
 ghost use Rattle.std.specs.Prelude.{◌≡◌, ◌==◌, ◌||◌, ◌∷◌, [], length, None, true, IfOk, IfSome};
 ghost use Rattle.command_words.specs.Command.{in_ranges};
 ghost use Rattle.settle_core.specs.Exchange.{asked, AreChangesOf};
-ghost use Rattle.settle_core.specs.Orders.{has_expired, is_place, orders, placed_by, token_of};
+ghost use Rattle.settle_core.specs.Orders.{is_place, orders};
+ghost use Rattle.settle_core.specs.Placing.{placed_by, token_of};
 ghost use Rattle.settle_core.specs.Verdict.{verdict, AnsweredBy};
 
 use crate::changes::Changes;
 use crate::exchange::Exchange;
+use crate::rules::has_expired;
 use command_words::{Command, Refusal, Reply};
 use condition_sets::{AccountId, EXCHANGE, OPERATOR, OrderId};
 use ledger_book::Staged;
@@ -83,13 +85,6 @@ impl Exchange {
             order: OrderId(self.orders.len()),
         }
     }
-}
-
-/// Whether an order that counts until a moment has expired; 0 is for ever.
-fn has_expired(expires: u64, now: u64) -> bool
-    ensures { result ≡ has_expired expires now }
-{
-    expires != 0 && expires < now
 }
 
 /// The order that a command places, where it places one.

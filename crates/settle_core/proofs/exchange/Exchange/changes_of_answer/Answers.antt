@@ -6,7 +6,7 @@ use Rattle.condition_sets.specs.declared.names.TheConstants.{EXCHANGE}
 use Rattle.event_table.specs.Events.{EventView, facts_of, question_in, winner_in}
 use Rattle.settle_core.specs.Book.{events, told}
 use Rattle.settle_core.specs.Exchange.{ExchangeView, asked}
-use Rattle.settle_core.specs.Refusals.{where_}
+use Rattle.settle_core.specs.OrderRules.{where_}
 use Rattle.settle_core.specs.Verdict.{first_some, verdict}
 use Rattle.settle_core.proofs.Partings.{answer-front, none-told}
 use Rattle.settle_core.proofs.exchange.Exchange.changes_of_answer.Goals as goal

@@ -11,7 +11,8 @@ use Rattle.settle_core.specs.Book.{conditions}
 use Rattle.settle_core.specs.Exchange.{ExchangeView, asked}
 use Rattle.settle_core.specs.Keys.{key_is_unprepared, key_is_improper}
 use Rattle.settle_core.specs.Postings.{balance}
-use Rattle.settle_core.specs.Refusals.{where_, supply_limit, entries_limit}
+use Rattle.settle_core.specs.OrderRules.{where_}
+use Rattle.settle_core.specs.Refusals.{supply_limit, entries_limit}
 use Rattle.settle_core.specs.Verdict.{AnsweredBy}
 use Rattle.settle_core.specs.declared.changes.Changes.{Changes}
 use Rattle.settle_core.proofs.KeptLemmas.{last_refusals}

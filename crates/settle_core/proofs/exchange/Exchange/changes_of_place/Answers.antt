@@ -5,8 +5,9 @@ use Rattle.command_words.specs.declared.command.Command.{Command}
 use Rattle.condition_sets.specs.declared.names.TheConstants.{EXCHANGE, OPERATOR}
 use Rattle.order_table.specs.Orders.{OrderView, open_in}
 use Rattle.settle_core.specs.Exchange.{ExchangeView, asked}
-use Rattle.settle_core.specs.Orders.{has_expired, is_market, nonce, orders}
-use Rattle.command_words.specs.declared.refusal.Refusal.TheVariants.{TableFull, OrderExpired, NonceOld, HistoryFull}
+use Rattle.settle_core.specs.OrderRules.{has_expired}
+use Rattle.settle_core.specs.Orders.{is_market, nonce, orders}
+use Rattle.command_words.specs.declared.refusal.Refusal.TheVariants.{TableFull, BadSet, NoMarket, OrderExpired, NonceOld, HistoryFull}
 use Rattle.settle_core.specs.Verdict.{verdict}
 use Rattle.settle_core.proofs.Partings.{place-front, question}
 use Rattle.settle_core.proofs.exchange.Exchange.changes_of_place.Goals as goal
@@ -25,6 +26,39 @@ returns-then-open_in-orders-clause-verdict c =
     let here : verdict (question e.limits h c.args.account c.args.command.now c.args.now) ≡ Some TableFull
     = subst (λ (command : Command). verdict (question e.limits h c.args.account command c.args.now) ≡ Some TableFull) (sym p.is) front in
     subst (λ (s : ExchangeView). verdict (asked s c.args.account c.args.command.now c.args.now) ≡ Some TableFull) c.self.view_is here
+
+pub returns-then-not-is_token-clause-verdict : goal.returns-then-not-is_token-clause-verdict
+returns-then-not-is_token-clause-verdict c =
+    let e = c.self.inside in
+    let h = e.history.items in
+    let p = c.in-Place in
+    let kept = c.self.invariant.1 in
+    let operator : (c.args.account == OPERATOR) ≡ false = search (rules, tests) in
+    let exchange : (c.args.account == EXCHANGE) ≡ false = search (rules, tests) in
+    let placed = ap (λ (os : List OrderView). open_in os p.market) kept.orders in
+    let above : nat_le e.limits.orders (open_in (orders h) p.market) ≡ false = grind (arith, nat_tests, c.if-open_in-orders.false, c.orders.ensures.value, c.open_in.ensures.value, placed) in
+    let token : ((p.set == 1) || (p.set == 2)) ≡ false = sym c.is_token.ensures ∙ c.if-not-is_token.true in
+    let front = place-front e.limits h c.args.account p.market p.set p.side p.making p.taking p.expires p.nonce p.fee c.args.now false false _ _ _ _ operator exchange above token refl refl refl refl in
+    let here : verdict (question e.limits h c.args.account c.args.command.now c.args.now) ≡ Some BadSet
+    = subst (λ (command : Command). verdict (question e.limits h c.args.account command c.args.now) ≡ Some BadSet) (sym p.is) front in
+    subst (λ (s : ExchangeView). verdict (asked s c.args.account c.args.command.now c.args.now) ≡ Some BadSet) c.self.view_is here
+
+pub returns-then-not-is_market-clause-verdict : goal.returns-then-not-is_market-clause-verdict
+returns-then-not-is_market-clause-verdict c =
+    let e = c.self.inside in
+    let h = e.history.items in
+    let p = c.in-Place in
+    let kept = c.self.invariant.1 in
+    let operator : (c.args.account == OPERATOR) ≡ false = search (rules, tests) in
+    let exchange : (c.args.account == EXCHANGE) ≡ false = search (rules, tests) in
+    let placed = ap (λ (os : List OrderView). open_in os p.market) kept.orders in
+    let above : nat_le e.limits.orders (open_in (orders h) p.market) ≡ false = grind (arith, nat_tests, c.if-open_in-orders.false, c.orders.ensures.value, c.open_in.ensures.value, placed) in
+    let token : ((p.set == 1) || (p.set == 2)) ≡ true = sym c.is_token.ensures ∙ c.if-not-is_token.false in
+    let market : is_market h p.market ≡ false = sym (kept.markets p.market) ∙ (sym c.is_market.ensures ∙ c.if-not-is_market.true) in
+    let front = place-front e.limits h c.args.account p.market p.set p.side p.making p.taking p.expires p.nonce p.fee c.args.now false true false _ _ _ operator exchange above token market refl refl refl in
+    let here : verdict (question e.limits h c.args.account c.args.command.now c.args.now) ≡ Some NoMarket
+    = subst (λ (command : Command). verdict (question e.limits h c.args.account command c.args.now) ≡ Some NoMarket) (sym p.is) front in
+    subst (λ (s : ExchangeView). verdict (asked s c.args.account c.args.command.now c.args.now) ≡ Some NoMarket) c.self.view_is here
 
 pub returns-then-has_expired-clause-verdict : goal.returns-then-has_expired-clause-verdict
 returns-then-has_expired-clause-verdict c =

@@ -6,7 +6,8 @@ use Rattle.condition_sets.specs.declared.names.TheConstants.{EXCHANGE}
 use Rattle.condition_table.specs.declared.facts.Facts.{Facts}
 use Rattle.settle_core.specs.Book.{conditions, told}
 use Rattle.settle_core.specs.Exchange.{ExchangeView, asked}
-use Rattle.settle_core.specs.Refusals.{where_, is_no_report}
+use Rattle.settle_core.specs.OrderRules.{where_}
+use Rattle.settle_core.specs.Refusals.{is_no_report}
 use Rattle.settle_core.specs.Verdict.{verdict, first_some}
 use Rattle.settle_core.proofs.Partings.{report-front, none-told}
 use Rattle.settle_core.proofs.exchange.Exchange.changes_of_report.Goals as goal

@@ -9,7 +9,8 @@ use Rattle.std.proofs.lemmas.Int.{ints}
 use Rattle.ledger_book.specs.Postings.{IsFunded, debit}
 use Rattle.settle_core.specs.Exchange.{AreChangesOf, asked, vault_change}
 use Rattle.settle_core.specs.Postings.{balance}
-use Rattle.settle_core.specs.Refusals.{where_, supply_limit, entries_limit}
+use Rattle.settle_core.specs.OrderRules.{where_}
+use Rattle.settle_core.specs.Refusals.{supply_limit, entries_limit}
 use Rattle.settle_core.specs.Verdict.{AnsweredBy}
 use Rattle.settle_core.specs.declared.changes.Changes.{Changes}
 use Rattle.settle_core.proofs.KeptLemmas.{last_refusals}
