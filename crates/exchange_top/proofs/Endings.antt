@@ -18,7 +18,7 @@ use Rattle.exchange_top.specs.Talk.{IsTalk}
 use Rattle.exchange_top.specs.declared.ended.Ended.{Ended}
 use Rattle.exchange_top.specs.declared.recovery.OpenFault.{OpenFault}
 use Rattle.exchange_top.specs.declared.recovery.OpenFault.TheVariants.{Disk, NotJournal, Cut, NotAct, Illegal, Memory}
-use Rattle.exchange_top.proofs.Payments.{front-pays}
+use Rattle.exchange_top.proofs.Payments.{AllAreLegal, all-fair, all-pay, fronts-legal}
 use Rattle.exchange_top.proofs.Runs.{Appends-told}
 
 -- what is said of a fault is its line, or nothing
@@ -134,10 +134,15 @@ ran-served drive is_drive disk middle first ended before after s goes holds back
   whole = λ honest. s.ran.whole (goes.honest ∙ honest);
   since = since;
   pays = λ honest. s.ran.pays (goes.honest ∙ honest);
-  paid_since = λ honest stored. front-pays ((drive ended.disk).image_since (drive disk).moment) (length first) s.ran.history s.ran.legal (since honest stored);
+  paid_since = λ honest stored. all-pay ((drive ended.disk).image_since (drive disk).moment) (legal_since honest stored);
+  fair = λ honest. s.ran.fair (goes.honest ∙ honest);
+  fair_since = λ honest stored. all-fair ((drive ended.disk).image_since (drive disk).moment) (legal_since honest stored);
 }
   where
     since : Honestly (drive disk) (IsStored (drive disk) → (image : List ℕ) → (drive ended.disk).image_since (drive disk).moment image → HoldsFront (length first) s.ran.history image)
     since honest stored image now =
         run-since drive is_drive disk middle first s.ran.history image stored s.front s.longer (holds honest) (λ early. back honest stored (drive disk).moment image (omega arith) early)
         (s.since (goes.honest ∙ honest) (drive disk).moment image goes.moment now)
+
+    legal_since : Honestly (drive disk) (IsStored (drive disk) → AllAreLegal ((drive ended.disk).image_since (drive disk).moment))
+    legal_since honest stored = fronts-legal ((drive ended.disk).image_since (drive disk).moment) (length first) s.ran.history s.ran.legal (since honest stored)

@@ -20,7 +20,7 @@ use Rattle.journal_disk.specs.Steps.{GoesOn}
 use Rattle.journal_store.specs.Journal.{JournalView}
 use Rattle.settle_core.specs.Bounds.{Bounds, standard}
 use Rattle.settle_core.specs.Legal.{IsLegal}
-use Rattle.exchange_top.proofs.Payments.{answered-pay, front-pays}
+use Rattle.exchange_top.proofs.Payments.{AllAreLegal, all-fair, all-pay, answered-legal, fronts-legal}
 use Rattle.exchange_top.proofs.Turns.{IsSmallStep, line-step}
 use Rattle.exchange_top.proofs.Stores.{Storing, goes_on-trans, stored-holds, whole-answered, lost-answered, step-longer, step-take, storing-since}
 use Rattle.exchange_top.specs.declared.serving.TheConstants.{MAX_INPUT}
@@ -273,8 +273,10 @@ served drive is_drive disk first status turns lines more history last before nex
     kept = over.kept;
     whole = over.whole;
     since = since-began drive is_drive disk first status turns lines history last over;
-    pays = λ honest. answered-pay (drive last).image (take lines turns) history legal (over.kept honest);
-    paid_since = λ honest stored. front-pays ((drive last).image_since (drive disk).moment) (length first) history legal (since-began drive is_drive disk first status turns lines history last over honest stored);
+    pays = λ honest. all-pay (drive last).image (now honest);
+    paid_since = λ honest stored. all-pay ((drive last).image_since (drive disk).moment) (then honest stored);
+    fair = λ honest. all-fair (drive last).image (now honest);
+    fair_since = λ honest stored. all-fair ((drive last).image_since (drive disk).moment) (then honest stored);
   };
   from_first = refl;
   front = over.front;
@@ -282,6 +284,12 @@ served drive is_drive disk first status turns lines more history last before nex
   goes_on = over.goes_on;
   since = over.since;
 }
+  where
+    now : Honestly (drive disk) (AllAreLegal (drive last).image)
+    now = λ honest. answered-legal (drive last).image (take lines turns) history legal (over.kept honest)
+
+    then : Honestly (drive disk) (IsStored (drive disk) → AllAreLegal ((drive last).image_since (drive disk).moment))
+    then = λ honest stored. fronts-legal ((drive last).image_since (drive disk).moment) (length first) history legal (since-began drive is_drive disk first status turns lines history last over honest stored)
 
 -- the journal has all stored, and every text was written
 over-whole : {D : Type 0} (drive : D → Drive) (disk : D) (first history : List Act) (status : Status) (turns : List Turn) (lines : ℕ) (journal : JournalView D)

@@ -12,6 +12,7 @@ use Rattle.command_words.specs.Reply.{rests_of}
 use Rattle.command_words.specs.declared.act.Act.{Act}
 use Rattle.settle_core.specs.Bounds.{standard}
 use Rattle.settle_core.specs.Coverage.{CanPay}
+use Rattle.settle_core.specs.Fairness.{IsFair}
 use Rattle.settle_core.specs.Legal.{IsLegal}
 use Rattle.exchange_top.specs.declared.ended.Ended.{Ended}
 use Rattle.exchange_top.specs.EndText.{end_text}
@@ -88,6 +89,10 @@ pub record HoldsAnswered (turns : List Turn) (history : List Act) (image : List 
 abbrev pub AllCanPay : (List ℕ → Type 0) → Type 0
 AllCanPay images = (image : List ℕ) (history : List Act) → images image → Holds image history → IsLegal standard history × CanPay history
 
+-- and no order of it is overfilled, or got less for a fill, before its fee, than its limit rounded down
+abbrev pub AllAreFair : (List ℕ → Type 0) → Type 0
+AllAreFair images = (image : List ℕ) (history : List Act) → images image → Holds image history → IsFair history
+
 -- A run that opened its journal: there were these turns, which lead from the recovered history to the last one.
 pub record Ran {D : Type 0} (drive : D → Drive) (disk : D) (ended : Ended D) (before after : Outside) : Type 0 where
   pub first : List Act
@@ -116,6 +121,9 @@ pub record Ran {D : Type 0} (drive : D → Drive) (disk : D) (ended : Ended D) (
   -- whatever a crash leaves, the vault there can pay all that is held there, whichever slots win
   pub pays : Honestly (drive disk) (AllCanPay (drive ended.disk).image)
   pub paid_since : Honestly (drive disk) (IsStored (drive disk) → AllCanPay ((drive ended.disk).image_since (drive disk).moment))
+  -- and every order there got what its limit gives
+  pub fair : Honestly (drive disk) (AllAreFair (drive ended.disk).image)
+  pub fair_since : Honestly (drive disk) (IsStored (drive disk) → AllAreFair ((drive ended.disk).image_since (drive disk).moment))
 
 -- the bytes of the disk are the cause of this status, where they can be: the journal gives no history
 abbrev pub IsDamaged : Status → List ℕ → Type 0

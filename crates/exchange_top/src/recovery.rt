@@ -37,7 +37,7 @@ pub enum OpenFault {
     /// The payload behind `lsn` acts spells no act.
     #[error("the journal has no act behind {lsn} acts, in the batch at byte {at}")]
     NotAct { at: u64, lsn: u64 },
-    /// Act `lsn` is refused over those before it, with the refusal of number `code`, or isn't carried out so far.
+    /// Act `lsn` is refused over those before it, with the refusal of number `code`.
     #[error("act {lsn} is refused with {code}, in the batch at byte {at}")]
     Illegal { at: u64, lsn: u64, code: u8 },
     /// Memory was wanting. It may be answered at any time.
