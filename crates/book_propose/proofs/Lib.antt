@@ -1,0 +1,7 @@
+mod Filled
+mod Fitting
+mod Fronts
+mod Insertion
+mod Order
+pub mod Proposed
+mod Takers
