@@ -2,9 +2,8 @@
 
 use collection_keys::Collection;
 use command_words::Command;
-use condition_sets::{AccountId, Bits, ConditionId, EventId, Fills, MAX_AMOUNT, OrderId, Pairs};
+use condition_sets::{AccountId, Bits, ConditionId, EventId, MAX_AMOUNT, Pairs};
 use ledger_book::Ledger;
-use order_rules::Side;
 use settle_core::{Exchange, Limits, ReplayFault, built};
 use std::alloc::Global;
 use std::test::Fail;
@@ -161,103 +160,6 @@ fn two_events_and_five_acts(rt: HostRuntime) -> Result<(), Fail> {
     ] {
         let answer = answer(rt.alloc(), &mut exchange, account, &command)?;
         assert_eq!(rt; answer.as_str(), expected, "{command:?}");
-    }
-    Ok(())
-}
-
-/// Condition 0 is a market.
-fn market() -> Result<Command, Fail> {
-    let condition = ConditionId::new(0).ok_or("no condition")?;
-    Ok(Command::Market { condition })
-}
-
-/// An order for YES of condition 0.
-fn place(side: Side, making: u64, taking: u64) -> Result<Command, Fail> {
-    Ok(Command::Place {
-        market: ConditionId::new(0).ok_or("no condition")?,
-        set: 1,
-        side,
-        making,
-        taking,
-        expires: 0,
-        nonce: 0,
-        fee: 0,
-    })
-}
-
-#[test]
-fn one_open_order(rt: HostRuntime) -> Result<(), Fail> {
-    let limits = Limits::small(1, 1, 1, 1, 5).ok_or("no limits")?;
-    let mut exchange = Exchange::new(rt.alloc(), limits)?;
-    answer(rt.alloc(), &mut exchange, 2, &prepare(3, 7))?;
-    answer(rt.alloc(), &mut exchange, 0, &market()?)?;
-    let order = OrderId(0);
-    for (account, command, expected) in [
-        (
-            2,
-            place(Side::Buy, 5, 10)?,
-            "Ok(Placed { lsn: 2, order: OrderId(0) })",
-        ),
-        (3, place(Side::Buy, 5, 10)?, "Err(TableFull)"),
-        (2, Command::Cancel { order }, "Ok(Done { lsn: 3 })"),
-        (
-            3,
-            place(Side::Buy, 5, 10)?,
-            "Ok(Placed { lsn: 4, order: OrderId(1) })",
-        ),
-    ] {
-        let answer = answer(rt.alloc(), &mut exchange, account, &command)?;
-        assert_eq!(rt; answer.as_str(), expected, "{command:?}");
-    }
-    Ok(())
-}
-
-/// What a match of order 1 with order 0 is answered as the eighth act. Account 3 has 10 shares of each token and sells YES
-/// for half as many units, and account 2 buys it with its 5 units: these are three balances.
-fn matched(alloc: Global, entries: u32, history: u32, fills: (u64, u64)) -> Result<String, Fail> {
-    let limits = Limits::small(1, 1, 2, entries, history).ok_or("no limits")?;
-    let mut exchange = Exchange::new(alloc, limits)?;
-    for (account, command) in [
-        (0, deposit(2, 5)),
-        (0, deposit(3, 10)),
-        (2, prepare(3, 7)),
-        (0, market()?),
-        (3, halves(alloc, 10)?),
-        (3, place(Side::Sell, 10, 5)?),
-        (2, place(Side::Buy, 5, 10)?),
-    ] {
-        answer(alloc, &mut exchange, account, &command)?;
-    }
-    let (fill, maker) = fills;
-    let command = Command::Match {
-        taker: OrderId(1),
-        fill,
-        makers: Fills::of(vec![in alloc; (OrderId(0), maker)]?),
-    };
-    answer(alloc, &mut exchange, 0, &command)
-}
-
-#[test]
-fn matches_within_limits(rt: HostRuntime) -> Result<(), Fail> {
-    for (entries, history, fills, expected) in [
-        (4, 9, (4, 8), "Err(EntriesLimit)"),
-        (4, 7, (4, 8), "Err(EntriesLimit)"),
-        (5, 7, (4, 8), "Err(HistoryFull)"),
-        (
-            5,
-            9,
-            (4, 8),
-            "Ok(Matched { fee: 0, got: 8, lsn: 7, refund: 0 })",
-        ),
-        (
-            3,
-            9,
-            (5, 10),
-            "Ok(Matched { fee: 0, got: 10, lsn: 7, refund: 0 })",
-        ),
-    ] {
-        let answer = matched(rt.alloc(), entries, history, fills)?;
-        assert_eq!(rt; answer.as_str(), expected, "{entries} {history} {fills:?}");
     }
     Ok(())
 }
