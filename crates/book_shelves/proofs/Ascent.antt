@@ -87,6 +87,13 @@ missed numbers o i ascends search_says there =
           ]
     ]
 
+-- nothing goes where it isn't there
+pub without-absent : (o : ℕ) (numbers : List ℕ) → (Contains numbers o → ⊥) → without o numbers ≡ numbers
+without-absent o [] absent = refl
+without-absent o (n ∷ behind) absent =
+    let apart : n ≢ o = λ same. absent (zero, omega arith, same) in
+    rw (ne_eqb n o apart, without-absent o behind (λ there. absent (suc there.0, omega (arith, there.1), there.2))) refl
+
 -- ---- snapshots
 
 pub IsSnapshot-push : (offers : List Offer) (offer : Offer) → IsSnapshot offers → All (λ before. before.order < offer.order) offers → offer.rest ≤ offer.limit.making → IsSnapshot (offers ++ offer ∷ [])

@@ -1,4 +1,4 @@
-ghost use Rattle.std.specs.Prelude.{◌≡◌, ◌+◌, ◌<◌, ◌≤◌, [], ◌∷◌, ◌++◌, length, slice_get, All, Contains, Some, IfOk, OnOk, OnErr};
+ghost use Rattle.std.specs.Prelude.{◌≡◌, ◌+◌, ◌<◌, ◌≤◌, [], ◌∷◌, ◌++◌, length, slice_get, All, Some, IfOk, OnOk, OnErr};
 ghost use Rattle.book_shelves.specs.Shelves.{IsAscending, without};
 
 use condition_sets::{NoMemory, OrderId};
@@ -64,13 +64,11 @@ impl Book {
         self.orders.push_reserved(o);
     }
 
-    /// Takes an order out, as it is filled, cancelled or over. It takes no memory.
+    /// Takes an order out, as it is filled, cancelled or over; where it isn't there, nothing changes. It takes no memory.
     pub fn take_out(&mut self, o: OrderId)
-        requires among { Contains self.old.orders o }
-
         ensures orders { self.new.orders ≡ without o self.old.orders }
         ensures limit { self.new.limit ≡ self.old.limit }
-        ensures room { self.new.room ≡ self.old.room + 1 }
+        ensures room { self.new.room + length self.new.orders ≡ self.old.room + length self.old.orders }
     {
         if let Ok(place) = self.orders.binary_search(&o) {
             self.orders.remove(place);
