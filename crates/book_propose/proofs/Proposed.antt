@@ -1,12 +1,12 @@
 -- What is proposed on a snapshot, and where nothing is.
-use Rattle.std.proofs.Common.{◌≡◌, ◌≢◌, ℕ, suc, ◌-◌, ◌≤◌, Bool, true, false, cond, not, List, [], ◌∷◌, length, take, Option, Some, None, refl, ◌∙◌, ap, subst, arith}
-use Rattle.std.specs.Prelude.{◌==◌, ◌&&◌, ◌||◌, ◌↔◌, All, AllPairs, Contains, filter, is_some, map, option_map, sum_by}
+use Rattle.std.proofs.Common.{◌≡◌, ◌≢◌, ℕ, suc, ◌-◌, ◌≤◌, Bool, true, false, cond, not, List, [], ◌∷◌, length, take, Option, Some, None, refl, sym, ◌∙◌, ap, subst, arith}
+use Rattle.std.specs.Prelude.{◌==◌, ◌&&◌, ◌||◌, ◌↔◌, All, AllPairs, Contains, filter, is_some, map, option_map, sum, sum_by}
 use Rattle.std.specs.List.{list_any}
 use Rattle.std.proofs.lemmas.Bool.{and_parts, eqb-false, not-true, or_parts}
 use Rattle.std.proofs.lemmas.List.{length-map, length-take}
 use Rattle.std.proofs.lemmas.List.Elements.{All-cons, All-contains_itself, All-filter, All-head, All-map, All-nil, All-tail, All-take, All-weaker, Contains-append_right}
 use Rattle.std.proofs.lemmas.List.Kept.{AllPairs-cons}
-use Rattle.std.proofs.lemmas.List.Sums.{sum_by-cons}
+use Rattle.std.proofs.lemmas.List.Sums.{sum-map, sum_by-cons}
 use Rattle.book_propose.specs.Candidates.{candidates, crosses_by, fit_with, is_candidate, kind_with, ranked}
 use Rattle.book_propose.specs.Proposals.{AreTerms, Filling, IsFilling, IsProposal, IsRanked, fillings, has_candidate, last_taker, makers_for, or_this, proposal, terms_of}
 use Rattle.book_propose.specs.Pricing.{priced}
@@ -213,13 +213,16 @@ are_terms offers terms proposal within each =
     let fs : List Filling = makers_for offers proposal.taker in
     let fill : terms.fill ≡ sum_by (λ f. f.fitted.spent) fs = ap (λ (t : MatchTerms). t.fill) proposal.terms_are in
     let many : length terms.makers ≡ length fs = ap (λ (t : MatchTerms). length t.makers) proposal.terms_are ∙ length-map {B = ℕ × ℕ} fs (λ (f : Filling). (f.maker.order, f.fitted.fill)) in
-    let spent = some_spent fs proposal.makers_some (All-weaker (IsFilling offers proposal.taker) (λ f. 1 ≤ f.fitted.spent) (λ f filled. (fit-facts proposal.taker f.maker filled.fits.0 f.fitted filled.fits.2).spent_some) fs proposal.each) in
+    let spent : terms.spent ≡ map (λ f. f.fitted.spent) fs = ap (λ (t : MatchTerms). t.spent) proposal.terms_are in
+    let each_spent = All-weaker (IsFilling offers proposal.taker) (λ f. 1 ≤ f.fitted.spent) (λ f filled. (fit-facts proposal.taker f.maker filled.fits.0 f.fitted filled.fits.2).spent_some) fs proposal.each in
     record {
-      some = omega (arith, fill, spent);
+      some = omega (arith, fill, some_spent fs proposal.makers_some each_spent);
       within = within;
       makers_some = omega (arith, many, proposal.makers_some);
       makers_few = omega (arith, many, proposal.makers_few);
       each = each;
+      spent = subst (All (λ n. 1 ≤ n)) (sym spent) (All-map (λ n. 1 ≤ n) (λ (f : Filling). f.fitted.spent) fs each_spent);
+      fill = fill ∙ (sym (sum-map (λ (f : Filling). f.fitted.spent) fs) ∙ ap sum (sym spent));
     }
 
 -- the best of a snapshot have rests within their limits

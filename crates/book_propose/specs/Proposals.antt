@@ -1,5 +1,5 @@
 -- The match that is proposed on a snapshot. This project's own.
-use Rattle.std.specs.Prelude.{◌≡◌, ◌≢◌, ◌==◌, ℕ, ◌+◌, ◌-◌, ◌<◌, ◌≤◌, ⊤, Bool, true, if◌then◌else◌, List, [], ◌∷◌, length, map, sum_by, take, slice_get, All, AllPairs, Contains, Option, Some, None, option_map}
+use Rattle.std.specs.Prelude.{◌≡◌, ◌≢◌, ◌==◌, ℕ, ◌+◌, ◌-◌, ◌<◌, ◌≤◌, ⊤, Bool, true, if◌then◌else◌, List, [], ◌∷◌, length, map, sum, sum_by, take, slice_get, All, AllPairs, Contains, Option, Some, None, option_map}
 use Rattle.std.specs.List.{list_any}
 use Rattle.book_propose.specs.Candidates.{candidates, fit_with, is_candidate, ranked}
 use Rattle.book_propose.specs.declared.terms.MatchTerms.{MatchTerms}
@@ -61,13 +61,15 @@ proposal snapshot = option_map (λ taker. terms_of taker (makers_for snapshot ta
 
 -- ---- what holds of it
 
--- the terms are in the ranges of a match
+-- the terms are in the ranges of a match, and the taker's fill is what is spent on the makers together
 pub record AreTerms (terms : MatchTerms) : Type 0 where
   pub some : 1 ≤ terms.fill
   pub within : terms.fill ≤ MAX_AMOUNT
   pub makers_some : 1 ≤ length terms.makers
   pub makers_few : length terms.makers ≤ MAX_MAKERS
   pub each : All (λ m. (1 ≤ m.1) × (m.1 ≤ MAX_AMOUNT)) terms.makers
+  pub spent : All (λ amount. 1 ≤ amount) terms.spent
+  pub fill : terms.fill ≡ sum terms.spent
 
 -- each offer comes before all behind it
 abbrev pub IsRanked : (Offer → Offer → Bool) → List Offer → Type 0
