@@ -13,6 +13,13 @@ makes_act (Order order) = false
 makes_act Vault = false
 makes_act command = true
 
+-- whether the command asks for something that is so already
+abbrev pub is_reading : Command → Bool
+is_reading (Balance holder key) = true
+is_reading (Order order) = true
+is_reading Vault = true
+is_reading command = false
+
 -- whether each member of a command about orders and matches lies in its range; other commands have none that may not
 abbrev pub order_in_ranges : Command → Bool
 order_in_ranges (Place market set side making taking expires nonce fee) =

@@ -2,10 +2,11 @@ pub mod Coverage
 mod Entered
 mod EntryCounts
 pub mod Fair
-mod Filling
+pub mod Filling
+mod Flows
 mod Funded
 mod Held
-mod Histories
+pub mod Histories
 mod Inductions
 mod KeptLemmas
 mod KeyLemmas
@@ -17,13 +18,14 @@ mod Matched
 mod Moves
 mod Orderly
 mod Partings
-mod Parts
+pub mod Parts
 mod Partitions
 mod Plans
 pub mod Posted
+mod Proposed
 mod Reported
 mod Settled
 mod Staging
-mod Trading
+pub mod Trading
 mod Verdicts
 mod Zeros

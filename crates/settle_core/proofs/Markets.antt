@@ -14,6 +14,7 @@ use Rattle.command_words.specs.declared.command.Command.{Command}
 use Rattle.command_words.specs.declared.command.Command.TheVariants.{Market, Place}
 use Rattle.command_words.specs.Ranges.{is_amount, is_byte, is_condition}
 use Rattle.command_words.specs.declared.ranges.TheConstants.{MAX_NUMBER, MAX_ORDER_FEE}
+use Rattle.condition_sets.specs.declared.amount.TheConstants.{MAX_AMOUNT}
 use Rattle.condition_table.specs.declared.facts.Facts.{Facts}
 use Rattle.fee_rules.specs.declared.fees.TheConstants.{MAX_RATE}
 use Rattle.order_table.specs.declared.order.Placed.{Placed}
@@ -33,9 +34,11 @@ use Rattle.settle_core.proofs.Verdicts.{AreNone, earlier, earlier-none, accepted
 abbrev pub HasTwoSlots : List Facts → ℕ → Type 0
 HasTwoSlots prepared c = MatchOption (slice_get prepared c) ⊥ (λ f. f.slots ≡ 2)
 
--- an order of a market
+-- an order of a market, with amounts and a rate
 pub record IsOfMarket (history : List Act) (order : Placed) : Type 0 where
   pub market : is_market history order.market ≡ true
+  pub making : 1 ≤ order.limit.making
+  pub taking : 1 ≤ order.limit.taking
   pub rate : order.rate ≤ MAX_RATE
 
 pub record AreTraded (history : List Act) : Type 0 where
@@ -84,17 +87,24 @@ placed-market : (limits : Bounds) (history : List Act) (account moment : ℕ) (c
     → All (IsOfMarket history) (placed_by account command)
 placed-market limits history account moment (Place market set side making taking expires nonce fee) ranges none =
     let q : Question = question_of limits history (record { account = account; command = Place market set side making taking expires nonce fee; moment = moment }) in
-    All-cons (IsOfMarket history) _ [] (record { market = not-not (is_market history market) (accepted-open_market q none); rate = rate ranges }) (All-nil (IsOfMarket history))
+    All-cons (IsOfMarket history) _ [] (record { market = not-not (is_market history market) (accepted-open_market q none); making = (amounts ranges).0; taking = (amounts ranges).1; rate = (amounts ranges).2 }) (All-nil (IsOfMarket history))
   where
-    rate : in_ranges (Place market set side making taking expires nonce fee) ≡ true → fee ≤ MAX_RATE
-    rate ranges =
+    some : (n : ℕ) → is_amount n ≡ true → 1 ≤ n
+    some n range =
+        let least : nat_le 1 n ≡ true = (and_parts (nat_le 1 n) (nat_le n MAX_AMOUNT) range).0 in
+        grind (arith, nat_tests, least)
+
+    amounts : in_ranges (Place market set side making taking expires nonce fee) ≡ true → (1 ≤ making) × (1 ≤ taking) × (fee ≤ MAX_RATE)
+    amounts ranges =
         let one = (and_parts (is_condition market) (is_byte set && (is_amount making && (is_amount taking && (nat_le expires MAX_NUMBER && (nat_le nonce MAX_NUMBER && nat_le fee MAX_ORDER_FEE))))) ranges).1 in
         let two = (and_parts (is_byte set) (is_amount making && (is_amount taking && (nat_le expires MAX_NUMBER && (nat_le nonce MAX_NUMBER && nat_le fee MAX_ORDER_FEE)))) one).1 in
         let three = (and_parts (is_amount making) (is_amount taking && (nat_le expires MAX_NUMBER && (nat_le nonce MAX_NUMBER && nat_le fee MAX_ORDER_FEE))) two).1 in
         let four = (and_parts (is_amount taking) (nat_le expires MAX_NUMBER && (nat_le nonce MAX_NUMBER && nat_le fee MAX_ORDER_FEE)) three).1 in
         let five = (and_parts (nat_le expires MAX_NUMBER) (nat_le nonce MAX_NUMBER && nat_le fee MAX_ORDER_FEE) four).1 in
-        let six = (and_parts (nat_le nonce MAX_NUMBER) (nat_le fee MAX_ORDER_FEE) five).1 in
-        grind (arith, nat_tests, six)
+        let six : nat_le fee MAX_ORDER_FEE ≡ true = (and_parts (nat_le nonce MAX_NUMBER) (nat_le fee MAX_ORDER_FEE) five).1 in
+        let pays = and_parts (is_amount making) (is_amount taking && (nat_le expires MAX_NUMBER && (nat_le nonce MAX_NUMBER && nat_le fee MAX_ORDER_FEE))) two in
+        let gets = and_parts (is_amount taking) (nat_le expires MAX_NUMBER && (nat_le nonce MAX_NUMBER && nat_le fee MAX_ORDER_FEE)) three in
+        (some making pays.0, some taking gets.0, grind (arith, nat_tests, six))
 placed-market limits history account moment command ranges none = All-nil (IsOfMarket history)
 
 pub traded-more : (limits : Bounds) (history : List Act) (act : Act) → AreTraded history → IsAccepted limits history act → AreTraded (history ++ act ∷ [])
@@ -118,6 +128,8 @@ traded-more limits history act so_far accepted =
     stay : (os : List Placed) → All (IsOfMarket history) os → All (IsOfMarket (history ++ act ∷ [])) os
     stay os are = All-weaker (IsOfMarket history) (IsOfMarket (history ++ act ∷ [])) (λ o is. record {
       market = market-more history act o.market ∙ or-left (is_market history o.market) (list_any (λ market. market == o.market) (opened_by act.command)) is.market;
+      making = is.making;
+      taking = is.taking;
       rate = is.rate;
     }) os are
 

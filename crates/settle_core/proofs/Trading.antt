@@ -37,10 +37,10 @@ or-false false = refl
 any-push : (p : Act → Bool) (acts : List Act) (act : Act) → list_any p (acts ++ act ∷ []) ≡ (list_any p acts || p act)
 any-push p acts act = list_any-append p acts (act ∷ []) ∙ ap (λ b. list_any p acts || b) (or-false (p act))
 
-ended-more : (history : List Act) (act : Act) (o : ℕ) → is_ended (history ++ act ∷ []) o ≡ (is_ended history o || ends o act.command)
+pub ended-more : (history : List Act) (act : Act) (o : ℕ) → is_ended (history ++ act ∷ []) o ≡ (is_ended history o || ends o act.command)
 ended-more history act o = any-push (λ (x : Act). ends o x.command) history act
 
-filled-more : (history : List Act) (act : Act) (o : ℕ) → filled (history ++ act ∷ []) o ≡ filled history o + filled_by o act.command
+pub filled-more : (history : List Act) (act : Act) (o : ℕ) → filled (history ++ act ∷ []) o ≡ filled history o + filled_by o act.command
 filled-more history act o = sum_by_push (λ (x : Act). filled_by o x.command) history act
 
 nonce-more : (history : List Act) (act : Act) (a : ℕ) → nonce (history ++ act ∷ []) a ≡ nonce history a + cond ((act.account == a) && is_bump act.command) 1 0
@@ -107,7 +107,7 @@ fresh limits history legal =
 
 -- ---- the orders of a history
 
-orders-append : (history : List Act) (n : ℕ) (xs ys : List Placed) → orders_from history n (xs ++ ys) ≡ orders_from history n xs ++ orders_from history (n + length xs) ys
+pub orders-append : (history : List Act) (n : ℕ) (xs ys : List Placed) → orders_from history n (xs ++ ys) ≡ orders_from history n xs ++ orders_from history (n + length xs) ys
 orders-append history n [] ys = ap (λ (m : ℕ). orders_from history m ys) (omega arith)
 orders-append history n (x ∷ xs) ys =
     let next : suc n + length xs ≡ n + length (x ∷ xs) = omega arith in
@@ -115,7 +115,7 @@ orders-append history n (x ∷ xs) ys =
     (orders-append history (suc n) xs ys ∙ ap (λ (m : ℕ). orders_from history (suc n) xs ++ orders_from history m ys) next)
 
 -- the same became of them
-same-from : (before after : List Act) (n : ℕ) (ps : List Placed) → ((o : ℕ) → n ≤ o → (filled after o ≡ filled before o) × (is_ended after o ≡ is_ended before o)) → orders_from after n ps ≡ orders_from before n ps
+pub same-from : (before after : List Act) (n : ℕ) (ps : List Placed) → ((o : ℕ) → n ≤ o → (filled after o ≡ filled before o) × (is_ended after o ≡ is_ended before o)) → orders_from after n ps ≡ orders_from before n ps
 same-from before after n [] same = refl
 same-from before after n (p ∷ ps) same =
     let here = same n (omega arith) in

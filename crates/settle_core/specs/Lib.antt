@@ -1,7 +1,7 @@
 pub mod Book
 pub mod Bounds
-pub mod Built
 pub mod Coverage
+pub mod Crossings
 pub mod Exchange
 pub mod Fairness
 pub mod Kept
@@ -19,4 +19,5 @@ pub mod Refusals
 pub mod Replay
 pub mod Reply
 pub mod Rules
+pub mod Snapshots
 pub mod Verdict

@@ -1,21 +1,19 @@
 -- Why a command is refused for the orders that it names. A rule looks at one order; the first order that it refuses is told
 -- by its place. Of a match the taker is at place 0, and the makers are at 1, 2 and so on.
 -- Source: Polymarket CTF Exchange, first published source, of crossing; the refusals are this project's own.
-use Rattle.std.specs.Prelude.{◌==◌, ℕ, suc, ◌+◌, ◌-◌, ◌&&◌, ◌||◌, Bool, false, not, nat_le, nat_lt, if◌then◌else◌, List, [], ◌∷◌, ◌++◌, Option, Some, None, is_none}
+use Rattle.std.specs.Prelude.{◌==◌, ℕ, suc, ◌-◌, ◌&&◌, ◌||◌, Bool, false, not, nat_le, nat_lt, if◌then◌else◌, List, [], ◌∷◌, ◌++◌, Option, Some, None, is_none}
 use Rattle.std.specs.List.{list_any}
+use Rattle.book_propose.specs.Candidates.{is_crossing}
 use Rattle.collection_keys.specs.Collections.{Pairs}
 use Rattle.command_words.specs.declared.command.Command.{Command}
 use Rattle.command_words.specs.declared.command.Command.TheVariants.{Cancel, Match, Lapse, Order}
 use Rattle.command_words.specs.declared.refusal.Refusal.{Refusal}
 use Rattle.command_words.specs.declared.refusal.Refusal.TheVariants.{NoOrder, NotOpen, OrderExpired, NonceOld, SelfMatch, RepeatedOrder, WrongPair, NotCrossing, Overfill, Funded}
 use Rattle.match_kinds.specs.Matching.{pays_in}
-use Rattle.order_rules.specs.Crossing.{buyer_of, seller_of}
 use Rattle.order_rules.specs.Kinds.{kind_of}
 use Rattle.order_rules.specs.Orders.{Terms}
 use Rattle.order_rules.specs.Prices.{price_of}
 use Rattle.order_rules.specs.declared.kinds.MatchKind.{MatchKind}
-use Rattle.order_rules.specs.declared.kinds.MatchKind.TheVariants.{Complementary, Mint, Merge}
-use Rattle.order_rules.specs.declared.prices.TheConstants.{ONE}
 use Rattle.order_table.specs.declared.order.OrderState.{OrderState}
 use Rattle.order_table.specs.declared.order.Placed.{Placed}
 
@@ -98,13 +96,7 @@ kind_with taker maker = kind_of taker.limit.side taker.token maker.limit.side ma
 abbrev pub unpaired : Placed → ℕ → ℕ → OrderState → Option Refusal
 unpaired taker place fill order = where_ (not (order.placed.market == taker.market) || is_none (kind_with taker order.placed)) (WrongPair place)
 
--- the prices of the two don't cross: a buyer pays less than the seller asks, two buyers pay less than ONE for a pair of
--- tokens, or two sellers ask more
-abbrev pub is_crossing : MatchKind → Terms → Terms → Bool
-is_crossing Complementary a b = nat_le (price_of (seller_of a b)) (price_of (buyer_of a b))
-is_crossing Mint a b = nat_le ONE (price_of a + price_of b)
-is_crossing Merge a b = nat_le (price_of a + price_of b) ONE
-
+-- the prices of the two don't cross
 abbrev pub is_apart : Option MatchKind → Terms → Terms → Bool
 is_apart None taker maker = false
 is_apart (Some kind) taker maker = not (is_crossing kind taker maker)

@@ -5,7 +5,7 @@ use Rattle.condition_sets.specs.declared.amount.TheConstants.{MAX_AMOUNT}
 use Rattle.condition_sets.specs.declared.names.TheConstants.{OPERATOR, EXCHANGE}
 use Rattle.command_words.specs.Command.{makes_act}
 use Rattle.command_words.specs.declared.command.Command.{Command}
-use Rattle.command_words.specs.declared.command.Command.TheVariants.{Deposit, Withdraw, Move, Prepare, Event, Split, Merge, Report, Answer, Redeem, Convert, Market, Place, Cancel, Match, Lapse}
+use Rattle.command_words.specs.declared.command.Command.TheVariants.{Deposit, Withdraw, Move, Prepare, Event, Split, Merge, Report, Answer, Redeem, Convert, Market, Place, Cancel, Match, Lapse, Cross}
 use Rattle.command_words.specs.declared.act.Act.{Act}
 use Rattle.command_words.specs.declared.refusal.Refusal.{Refusal}
 use Rattle.command_words.specs.declared.refusal.Refusal.TheVariants.{NotAllowed, NoCondition, AlreadyPrepared, TableFull, BadSet, BadPartition, Held, TooDeep, AlreadyReported, BadPayouts, NotReported, NoEvent, Determined, NoMarket, OrderExpired, NonceOld, Unfunded, ExchangeShort, TooLittle, VaultLimit, SupplyLimit, EntriesLimit, HistoryFull}
@@ -66,6 +66,7 @@ may_ask prepared made account (Market condition) = account == OPERATOR
 may_ask prepared made account (Place market set side making taking expires nonce fee) = not (account == OPERATOR) && not (account == EXCHANGE)
 may_ask prepared made account (Match taker fill makers) = account == OPERATOR
 may_ask prepared made account (Lapse order) = account == OPERATOR
+may_ask prepared made account (Cross market) = account == OPERATOR
 may_ask prepared made account command = not (account == EXCHANGE)
 
 -- an order's maker alone may cancel it, where it was placed
@@ -231,9 +232,10 @@ determined q = option_map Determined (winner_before (events q.history) q.command
 
 -- ---- 18 to 22
 
--- an order is placed where there is no market
+-- an order is placed or a crossing asked for where there is no market
 abbrev pub names_no_market : (ℕ → Bool) → Command → Bool
 names_no_market is_open (Place market set side making taking expires nonce fee) = not (is_open market)
+names_no_market is_open (Cross market) = not (is_open market)
 names_no_market is_open command = false
 
 abbrev pub no_market : Question → Option Refusal

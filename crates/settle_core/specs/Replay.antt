@@ -1,24 +1,16 @@
 -- Acts that are carried out again, one after another.
-use Rattle.std.specs.Prelude.{◌≡◌, ℕ, if◌then◌else◌, List, length, take, slice_get, Option, Some, option_map, ⊤}
-use Rattle.command_words.specs.Refusal.{code_of, fault_code}
+use Rattle.std.specs.Prelude.{◌≡◌, ℕ, List, length, take, slice_get, Some, option_map, ⊤}
+use Rattle.command_words.specs.Refusal.{code_of}
 use Rattle.command_words.specs.declared.act.Act.{Act}
-use Rattle.command_words.specs.declared.line_fault.LineFault.TheVariants.{NotCommand}
 use Rattle.settle_core.specs.Bounds.{Bounds}
-use Rattle.settle_core.specs.Built.{is_built}
 use Rattle.settle_core.specs.Legal.{IsLegal}
-use Rattle.settle_core.specs.Refusals.{Question}
 use Rattle.settle_core.specs.Verdict.{question_of, verdict}
 use Rattle.settle_core.specs.declared.replay.ReplayFault.{ReplayFault}
 use Rattle.settle_core.specs.declared.replay.ReplayFault.TheVariants.{Illegal, Memory}
 
--- the number with which a command is refused: NotCommand's where it isn't carried out so far, before anything that the
--- verdict would say, and then that of the verdict; none where it is accepted
-abbrev pub refused_code : Question → Option ℕ
-refused_code q = if is_built q.command then option_map code_of (verdict q) else Some (fault_code NotCommand)
-
 -- an act is refused over a history, with this number
 abbrev pub IsRefused : Bounds → List Act → Act → ℕ → Type 0
-IsRefused limits history act code = refused_code (question_of limits history act) ≡ Some code
+IsRefused limits history act code = option_map code_of (verdict (question_of limits history act)) ≡ Some code
 
 -- an act isn't carried out over a history: it is refused, or memory was wanting
 abbrev pub IsStopped : Bounds → List Act → Act → ReplayFault → Type 0

@@ -1,16 +1,19 @@
 -- The replies, and what the history is after them.
-use Rattle.std.specs.Prelude.{◌≡◌, ℕ, ◌+◌, Bool, true, false, MatchBool, if◌then◌else◌, List, [], ◌∷◌, ◌++◌, length, slice_get, Option, Some, None}
+use Rattle.std.specs.Prelude.{◌≡◌, ◌⊎◌, ℕ, ◌+◌, ◌<◌, true, false, if◌then◌else◌, List, [], ◌∷◌, ◌++◌, length, slice_get, Option, Some, None}
 use Rattle.command_words.specs.declared.command.Command.{Command}
-use Rattle.command_words.specs.declared.command.Command.TheVariants.{Prepare, Event, Redeem, Convert, Place, Bump, Match, Balance, Order, Vault}
+use Rattle.command_words.specs.declared.command.Command.TheVariants.{Prepare, Event, Redeem, Convert, Place, Bump, Match, Cross, Balance, Order, Vault}
 use Rattle.command_words.specs.declared.act.Act.{Act}
 use Rattle.command_words.specs.declared.refusal.Refusal.{Refusal}
 use Rattle.command_words.specs.declared.refusal.Refusal.TheVariants.{Memory}
 use Rattle.command_words.specs.declared.reply.Reply.{Reply}
-use Rattle.command_words.specs.declared.reply.Reply.TheVariants.{Done, Prepared, EventMade, Redeemed, Converted, Placed, Bumped, Matched, Balanced, Ordered, Vaulted, Refused}
+use Rattle.command_words.specs.declared.reply.Reply.TheVariants.{Done, Prepared, EventMade, Redeemed, Converted, Placed, Bumped, Matched, Crossed, Balanced, Ordered, Vaulted, Refused}
 use Rattle.command_words.specs.Command.{makes_act}
+use Rattle.command_words.specs.Refusal.{code_of}
 use Rattle.convert_positions.specs.Converting.{cash_of, out_of}
 use Rattle.event_table.specs.Events.{EventView}
 use Rattle.match_kinds.specs.declared.settle.MatchSums.{MatchSums}
+use Rattle.settle_core.specs.Crossings.{Crossing, crossing}
+use Rattle.settle_core.specs.declared.limits.TheConstants.{MAX_TURNS}
 use Rattle.settle_core.specs.Book.{book, conditions, events, sums_in, told}
 use Rattle.order_table.specs.Orders.{OrderView, is_open}
 use Rattle.settle_core.specs.Matches.{parts_in, sums_in as match_sums}
@@ -48,23 +51,41 @@ accepted_reply history a (Balance holder key) = Balanced (balance history holder
 accepted_reply history a Vault = Vaulted (length history) (vault history)
 accepted_reply history a command = Done (length history)
 
+-- the act that an accepted command becomes
+abbrev pub act_of : Question → Act
+act_of q = record { moment = q.moment; account = q.account; command = q.command }
+
+-- the crossing of a market that is asked for, of so many turns at the most
+abbrev pub crossing_in : Question → ℕ → ℕ → Crossing
+crossing_in q market turns = crossing q.limits market q.moment turns q.history
+
+-- the reply to it, over so many acts
+abbrev pub crossed_reply : ℕ → Crossing → Reply
+crossed_reply lsn c = Crossed (length c.acts) lsn c.more c.stop
+
+-- the reply to a command that is accepted, and the history that it leaves: a crossing goes on by the acts of its turns, and any
+-- other command by its own act, where it makes one
+abbrev pub granted_reply : Question → Command → Reply
+granted_reply q (Cross market) = crossed_reply (length q.history) (crossing_in q market MAX_TURNS)
+granted_reply q command = accepted_reply q.history q.account command
+
+abbrev pub granted_history : Question → Command → List Act
+granted_history q (Cross market) = q.history ++ (crossing_in q market MAX_TURNS).acts
+granted_history q command = if makes_act command then q.history ++ act_of q ∷ [] else q.history
+
 abbrev pub reply_by : Option Refusal → Question → Reply
-reply_by None q = accepted_reply q.history q.account q.command
+reply_by None q = granted_reply q q.command
 reply_by (Some refusal) q = Refused refusal (length q.history)
 
 -- the reply that the rules give
 abbrev pub reply_to : Question → Reply
 reply_to q = reply_by (verdict q) q
 
--- the act that an accepted command becomes
-abbrev pub act_of : Question → Act
-act_of q = record { moment = q.moment; account = q.account; command = q.command }
-
 abbrev pub history_by : Option Refusal → Question → List Act
-history_by None q = if makes_act q.command then q.history ++ act_of q ∷ [] else q.history
+history_by None q = granted_history q q.command
 history_by (Some refusal) q = q.history
 
--- the history that the rules leave: an accepted command that makes an act is its last act, and nothing else changes it
+-- the history that the rules leave: a refused command changes nothing
 abbrev pub history_after : Question → List Act
 history_after q = history_by (verdict q) q
 
@@ -72,16 +93,24 @@ history_after q = history_by (verdict q) q
 abbrev pub no_memory : Reply
 no_memory = Refused Memory 0
 
-abbrev pub is_no_memory_refusal : Refusal → Bool
-is_no_memory_refusal Memory = true
-is_no_memory_refusal refusal = false
+-- the reply to a refusal over a history of this length
+abbrev pub refused_reply : Refusal → ℕ → Reply
+refused_reply Memory rests = no_memory
+refused_reply refusal rests = Refused refusal rests
 
--- whether a reply says that memory was wanting in the exchange
-abbrev pub is_no_memory : Reply → Bool
-is_no_memory (Refused refusal rests) = is_no_memory_refusal refusal
-is_no_memory reply = false
+-- A crossing that may be made ended where memory was wanting, after turns of which each made an act.
+pub record IsCutShort (q : Question) (reply : Reply) (after : List Act) : Type 0 where
+  pub market : ℕ
+  pub turns : ℕ
+  pub asks : q.command ≡ Cross market
+  pub granted : verdict q ≡ None
+  pub fewer : turns < MAX_TURNS
+  pub goes_on : (crossing_in q market turns).more ≡ true
+  pub told : reply ≡ Crossed (length (crossing_in q market turns).acts) (length q.history) false (code_of Memory)
+  pub history : after ≡ q.history ++ (crossing_in q market turns).acts
 
--- A question is answered, and this is the history afterwards: by the rules; or for want of memory, and nothing changes.
+-- A question is answered, and this is the history afterwards: by the rules; or memory was wanting, and nothing changes, but for
+-- the earlier turns of a crossing.
 abbrev pub Answered : Question → Reply → List Act → Type 0
 Answered q reply after =
-    MatchBool (is_no_memory reply) ((reply ≡ no_memory) × (after ≡ q.history)) ((reply ≡ reply_to q) × (after ≡ history_after q))
+    ((reply ≡ reply_to q) × (after ≡ history_after q)) ⊎ (((reply ≡ no_memory) × (after ≡ q.history)) ⊎ IsCutShort q reply after)

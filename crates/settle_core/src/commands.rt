@@ -6,6 +6,7 @@ mod balance;
 mod bump;
 mod cancel;
 mod convert;
+mod cross;
 mod deposit;
 mod event;
 mod lapse;

@@ -1,7 +1,7 @@
 ghost use Rattle.std.specs.Prelude.{◌≡◌, ℕ, ◌<◌, ◌≤◌, [], ◌∷◌, ◌++◌, true, false, None, Some, length, nat_le, option_map, All, OnOk, OnErr, IfOk};
 ghost use Rattle.std.specs.Result.{result_err};
 ghost use Rattle.collection_keys.specs.Collections.{Pairs};
-ghost use Rattle.command_words.specs.Command.{makes_act, in_ranges, may_be_act};
+ghost use Rattle.command_words.specs.Command.{in_ranges, is_reading, may_be_act};
 ghost use Rattle.command_words.specs.Reply.{IsSound};
 ghost use Rattle.command_words.specs.declared.act.TheConstants.{MAX_HISTORY};
 ghost use Rattle.command_words.specs.declared.reply.Reply.TheVariants.{Done};
@@ -13,13 +13,12 @@ ghost use Rattle.ledger_book.specs.Postings.{debit, AreWithin, IsFunded};
 ghost use Rattle.ledger_book.specs.Staging.{oversupplied};
 ghost use Rattle.condition_table.specs.Conditions.{numerators_at};
 ghost use Rattle.settle_core.specs.Book.{conditions, events, postings, told};
-ghost use Rattle.settle_core.specs.Built.{is_built};
 ghost use Rattle.settle_core.specs.Exchange.{ExchangeView, asked, IsSame, AreChangesOf, IsPlanFor};
 ghost use Rattle.settle_core.specs.Legal.{IsAccepted, IsLegal, IsPlannable};
 ghost use Rattle.settle_core.specs.Postings.{vault, balance, supply};
 ghost use Rattle.settle_core.specs.OrderRules.{where_};
 ghost use Rattle.settle_core.specs.Refusals.{is_above_entries};
-ghost use Rattle.settle_core.specs.Reply.{act_of, accepted_reply, reply_to};
+ghost use Rattle.settle_core.specs.Reply.{act_of, accepted_reply};
 ghost use Rattle.settle_core.specs.Verdict.{verdict, first_some, AnsweredBy};
 
 use crate::changes::Changes;
@@ -140,7 +139,7 @@ impl Exchange {
         requires { IsPlannable command.now }
 
         ensures verdict { AnsweredBy (verdict (asked self.old account command.now now)) result }
-        ensures reply { IfOk result (λ reply. reply ≡ reply_to (asked self.old account command.now now)) }
+        ensures reply { IfOk result (λ reply. reply ≡ accepted_reply self.old.history account command.now) }
         ensures sound { IfOk result IsSound }
         ensures history { OnOk result (self.new.history ≡ self.old.history ++ act_of (asked self.old account command.now now) ∷ []) }
         ensures limits { self.new.limits ≡ self.old.limits }
@@ -152,9 +151,8 @@ impl Exchange {
 
     /// Answers a reading, at any moment alike. It takes no memory.
     pub fn read(&self, account: AccountId, command: &Command) -> Result<Reply, Refusal>
-        requires reading { makes_act command.now ≡ false }
+        requires reading { is_reading command.now ≡ true }
         requires ranges { in_ranges command.now ≡ true }
-        requires built { is_built command.now ≡ true }
 
         ensures ok { IfOk result (λ reply. reply ≡ accepted_reply self.now.history account command.now) }
         ensures verdict { (now : ℕ) → result_err result ≡ verdict (asked self.now account command.now now) }
@@ -166,6 +164,13 @@ impl Exchange {
             Command::Vault => self.read_vault(account),
             _ => unreachable!(),
         }
+    }
+
+    /// Its limits.
+    pub fn limits(&self) -> Limits
+        ensures { result ≡ self.now.limits }
+    {
+        self.limits
     }
 
     /// The acts so far, the oldest first. Each was accepted over those before it.

@@ -1,10 +1,13 @@
 //! Laws of the rules: sentences about every history and every command, each proved once.
 
 ghost use Rattle.std.specs.Prelude.{◌≡◌, ℕ, ◌≤◌, List, Option, Some, None, Contains, All, true, false};
+ghost use Rattle.book_propose.specs.Proposals.{proposal};
+ghost use Rattle.book_propose.specs.declared.terms.MatchTerms.{MatchTerms};
 ghost use Rattle.command_words.specs.Command.{in_ranges};
 ghost use Rattle.command_words.specs.Ranges.{is_account};
 ghost use Rattle.command_words.specs.Refusal.{code_of};
 ghost use Rattle.command_words.specs.declared.act.Act.{Act};
+ghost use Rattle.command_words.specs.declared.command.Command.TheVariants.{Match};
 ghost use Rattle.command_words.specs.declared.refusal.Refusal.{Refusal};
 ghost use Rattle.command_words.specs.declared.refusal.Refusal.TheVariants.{SupplyLimit};
 ghost use Rattle.collection_keys.specs.Collections.{Pairs, root};
@@ -17,9 +20,13 @@ ghost use Rattle.settle_core.specs.Bounds.{Bounds, standard};
 ghost use Rattle.settle_core.specs.Coverage.{CanPay, outlook};
 ghost use Rattle.settle_core.specs.Fairness.{IsFair};
 ghost use Rattle.settle_core.specs.Legal.{IsLegal};
+ghost use Rattle.settle_core.specs.OrderRules.{match_refusals};
+ghost use Rattle.settle_core.specs.Orders.{nonce, order_state, placed};
 ghost use Rattle.settle_core.specs.Postings.{balance, supply, held_by_all, vault};
-ghost use Rattle.settle_core.specs.Refusals.{Question};
-ghost use Rattle.settle_core.specs.Verdict.{Applies, refusals, verdict};
+ghost use Rattle.settle_core.specs.Refusals.{Question, little_by, short_by};
+ghost use Rattle.settle_core.specs.Snapshots.{snapshot};
+ghost use Rattle.settle_core.specs.declared.limits.TheConstants.{MAX_TURNS};
+ghost use Rattle.settle_core.specs.Verdict.{Applies, first_some, refusals, verdict};
 
 /// The verdict is the refusal with the lowest number whose condition holds, and there is none where no condition holds.
 pub fn lowest_refusal()
@@ -56,6 +63,22 @@ pub fn supply_is_held()
 /// rounded down.
 pub fn orders_get_their_limits()
     ensures { (limits : Bounds) (history : List Act) → IsLegal limits history → IsFair history }
+{}
+
+/// What is proposed on the snapshot of a legal history, at its moment, is refused for none of its orders, by no refusal from 19
+/// to 27, nor for what goes out of the exchange or for what its taker gets, by 29 and 30.
+pub fn proposal_fits()
+    ensures orders { (limits : Bounds) (history : List Act) (market now : ℕ) (terms : MatchTerms) → IsLegal limits history → proposal (snapshot history market now) ≡ Some terms
+        → first_some (match_refusals (order_state history) (nonce history) now terms.taker terms.fill terms.makers) ≡ None }
+    ensures flows { (limits : Bounds) (history : List Act) (market now : ℕ) (terms : MatchTerms) → IsLegal limits history → proposal (snapshot history market now) ≡ Some terms
+        → short_by (placed history) (Match terms.taker terms.fill terms.makers) ≡ None }
+    ensures proceeds { (limits : Bounds) (history : List Act) (market now : ℕ) (terms : MatchTerms) → IsLegal limits history → proposal (snapshot history market now) ≡ Some terms
+        → little_by (placed history) (Match terms.taker terms.fill terms.makers) ≡ None }
+{}
+
+/// The number of the public constant.
+pub fn constants()
+    ensures { MAX_TURNS ≡ 1_000 }
 {}
 
 /// The limits of the program.

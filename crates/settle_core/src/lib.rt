@@ -8,7 +8,6 @@
 mod changes;
 mod commands;
 mod exchange;
-mod forms;
 mod keys;
 pub mod laws;
 mod limits;
@@ -18,8 +17,7 @@ mod replay;
 mod rules;
 
 pub use exchange::Exchange;
-pub use forms::built;
-pub use limits::Limits;
+pub use limits::{Limits, MAX_TURNS};
 pub use orders::OrderFacts;
 pub use plan::Plan;
 pub use replay::ReplayFault;

@@ -14,6 +14,9 @@ const STANDARD_EVENTS: u16 = 512;
 /// The most open orders of one market.
 const STANDARD_ORDERS: u32 = 10_000;
 
+/// The most turns of one crossing.
+pub const MAX_TURNS: u32 = 1_000;
+
 /// How many conditions, events, open orders of a market, nonzero balances and acts an exchange holds at the most.
 #[derive(Clone, Copy, Debug, PartialEq, Eq)]
 pub struct Limits {

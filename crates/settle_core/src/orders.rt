@@ -1,6 +1,7 @@
 //! What is told of markets and orders. It takes no memory.
 
 ghost use Rattle.std.specs.Prelude.{◌≡◌, ◌≤◌, length, option_map};
+ghost use Rattle.order_table.specs.Orders.{open_in};
 ghost use Rattle.settle_core.specs.Offers.{facts_of, offer_at, offer_of};
 ghost use Rattle.settle_core.specs.Orders.{is_market, order_state, orders};
 
@@ -36,6 +37,14 @@ impl Exchange {
         ensures { result ≡ length (orders self.now.history) }
     {
         self.orders.len()
+    }
+
+    /// How many orders of a market are open.
+    pub fn open_orders(&self, c: ConditionId) -> u32
+        ensures value { result ≡ open_in (orders self.now.history) c }
+        ensures within { result ≤ self.now.limits.orders }
+    {
+        self.orders.open_in(c)
     }
 
     /// What is known of an order; `None` exactly where none has this number.

@@ -7,17 +7,15 @@ ghost use Rattle.settle_core.specs.Exchange.{IsSame};
 ghost use Rattle.settle_core.specs.declared.replay.ReplayFault.TheVariants.{Illegal, Memory};
 
 use crate::exchange::Exchange;
-use crate::forms::built;
 use crate::limits::Limits;
-use command_words::{Act, LineFault, Refusal};
+use command_words::{Act, Refusal};
 use condition_sets::NoMemory;
 use std::alloc::Global;
 
 /// Why acts are no history.
 #[derive(Clone, Copy, Debug, PartialEq, Eq)]
 pub enum ReplayFault {
-    /// Act `lsn`, counted from 0, is refused over those before it, with the refusal of number `code`; its number is that
-    /// of [`LineFault::NotCommand`] where it is of a form that isn't carried out so far.
+    /// Act `lsn`, counted from 0, is refused over those before it, with the refusal of number `code`.
     Illegal { lsn: u64, code: u8 },
     /// Memory was wanting. It may be answered at any time.
     Memory,
@@ -56,9 +54,6 @@ impl Exchange {
         ensures same { OnErr result (IsSame self.old self.new) }
         ensures limits { self.new.limits ≡ self.old.limits }
     {
-        if !built(&act.command) {
-            return Err(self.illegal(LineFault::NotCommand.code()));
-        }
         match self.submit(act.account, &act.command, act.moment) {
             Ok(_) => Ok(()),
             Err(Refusal::Memory) => Err(ReplayFault::Memory),

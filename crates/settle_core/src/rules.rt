@@ -5,7 +5,8 @@ ghost use Rattle.std.specs.Prelude.{◌≡◌, ◌==◌, ◌&&◌, ◌+◌, ◌�
 ghost use Rattle.std.specs.List.{list_any};
 ghost use Rattle.command_words.specs.declared.ranges.TheConstants.{MAX_MAKERS};
 ghost use Rattle.order_rules.specs.Kinds.{AreSidesOf};
-ghost use Rattle.settle_core.specs.OrderRules.{at_first, by_rule, has_expired, is_apart, is_crossing, is_live, kind_with, match_refusals, never_placed, own, repeated_from, rest_of, uncrossed, unpaired, where_};
+ghost use Rattle.book_propose.specs.Candidates.{is_crossing};
+ghost use Rattle.settle_core.specs.OrderRules.{at_first, by_rule, has_expired, is_apart, is_live, kind_with, match_refusals, never_placed, own, repeated_from, rest_of, uncrossed, unpaired, where_};
 ghost use Rattle.settle_core.specs.Orders.{nonce, order_state};
 ghost use Rattle.settle_core.specs.Rules.{rule_of};
 ghost use Rattle.settle_core.specs.Verdict.{first_some};

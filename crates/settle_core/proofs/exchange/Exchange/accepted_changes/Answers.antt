@@ -11,7 +11,7 @@ use Rattle.settle_core.proofs.exchange.Exchange.accepted_changes.Goals as goal
 
 -- a command on which the verdict is none is an accepted act
 accepted : (q : Question) (result : Result Changes Refusal) → IsPlannable q.command → AnsweredBy (verdict q) result → IfOk result (λ _. IsAccepted q.limits q.history (act_of q))
-accepted q (Ok changes) plannable none = record { may_be_act = accepted-may q none plannable; is_built = plannable.is_built; accepted = none }
+accepted q (Ok changes) plannable none = record { may_be_act = accepted-may q none plannable; accepted = none }
 accepted q (Err refusal) plannable by = tt
 
 pub returns-clause-accepted : goal.returns-clause-accepted

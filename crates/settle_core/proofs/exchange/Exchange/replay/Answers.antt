@@ -1,10 +1,12 @@
 use Rattle.std.proofs.Common.{◌≡◌, ℕ, ◌<◌, List, length, take, get_or, Some, None, refl, sym, ◌∙◌, ap, subst, arith, length-take}
+use Rattle.std.specs.Prelude.{option_map}
 use Rattle.std.proofs.lemmas.Option.{slice_get-get_or}
+use Rattle.command_words.specs.Refusal.{code_of}
 use Rattle.command_words.specs.declared.act.Act.{Act}
 use Rattle.settle_core.specs.Bounds.{Bounds}
 use Rattle.settle_core.specs.Legal.{IsLegal}
-use Rattle.settle_core.specs.Replay.{refused_code, IsStopped, IsFirstRefused, IsNoHistory}
-use Rattle.settle_core.specs.Verdict.{question_of}
+use Rattle.settle_core.specs.Replay.{IsStopped, IsFirstRefused, IsNoHistory}
+use Rattle.settle_core.specs.Verdict.{question_of, verdict}
 use Rattle.settle_core.specs.Exchange.{ExchangeView, IsSame}
 use Rattle.settle_core.specs.declared.replay.ReplayFault.{ReplayFault}
 use Rattle.settle_core.specs.declared.replay.ReplayFault.TheVariants.{Illegal, Memory}
@@ -27,7 +29,7 @@ stopped limits acts act index Memory inside is legal stop = tt
 never : (limits : Bounds) (acts : List Act) (fault : ReplayFault) → IsNoHistory limits acts fault → IsLegal limits acts → fault ≡ Memory
 never limits acts (Illegal lsn code) first legal =
     let accepted = legal lsn first.act first.placed in
-    let none : refused_code (question_of limits (take lsn acts) first.act) ≡ None = rw (accepted.is_built, accepted.accepted) refl in
+    let none : option_map code_of (verdict (question_of limits (take lsn acts) first.act)) ≡ None = rw accepted.accepted refl in
     let both = sym none ∙ first.refused in
     cc
 never limits acts Memory first legal = refl
