@@ -1,0 +1,5 @@
+mod Answered
+mod Crossings
+mod Listings
+mod OpenOrders
+mod Ranges
