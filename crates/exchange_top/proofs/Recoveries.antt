@@ -1,9 +1,10 @@
 -- A journal that is read back, act by act.
 use Rattle.std.proofs.Common.{◌≡◌, ℕ, ◌≤◌, List, [], ◌∷◌, ◌++◌, length, refl, sym, ◌∙◌, ap, subst, inl, inr, arith, length-append}
-use Rattle.std.specs.Prelude.{◌≢◌, Result, Ok, Err, IfOk, IfErr, Some, None, slice_get}
+use Rattle.std.specs.Prelude.{◌≢◌, Result, Ok, Err, IfOk, IfErr, Some, None, option_map, slice_get}
 use Rattle.std.proofs.Math.Seq.{take-append_seam}
 use Rattle.act_bytes.specs.Spelling.{Spells}
 use Rattle.act_bytes.proofs.Unique.{one-act}
+use Rattle.command_words.specs.Refusal.{code_of}
 use Rattle.command_words.specs.declared.act.Act.{Act}
 use Rattle.journal_disk.specs.Drive.{Drive}
 use Rattle.journal_disk.specs.Steps.{GoesOn, Leaves}
@@ -21,8 +22,8 @@ use Rattle.journal_store.specs.declared.outcome.NextFault.{NextFault}
 use Rattle.journal_store.specs.declared.outcome.NextFault.TheVariants as next
 use Rattle.settle_core.specs.Bounds.{Bounds}
 use Rattle.settle_core.specs.Legal.{IsAccepted, IsLegal}
-use Rattle.settle_core.specs.Replay.{refused_code, IsRefused}
-use Rattle.settle_core.specs.Verdict.{question_of}
+use Rattle.settle_core.specs.Replay.{IsRefused}
+use Rattle.settle_core.specs.Verdict.{question_of, verdict}
 use Rattle.exchange_top.specs.Damage.{IsCutAt, IsIllegalAt}
 use Rattle.exchange_top.specs.Holds.{SpellAll, Holds}
 use Rattle.exchange_top.specs.Recovery.{Recovers, Stops, StopsAt, IsRedone, IsExcused, of_begin, of_next}
@@ -76,7 +77,7 @@ accepted-at limits history front more act split legal =
 
 pub not-both : (limits : Bounds) (history : List Act) (act : Act) (code : ℕ) → IsAccepted limits history act → IsRefused limits history act code → ⊥
 not-both limits history act code accepted refused =
-    let none : refused_code (question_of limits history act) ≡ None = rw (accepted.is_built, accepted.accepted) refl in
+    let none : option_map code_of (verdict (question_of limits history act)) ≡ None = rw accepted.accepted refl in
     let same = sym none ∙ refused in
     cc
 

@@ -11,7 +11,7 @@ use Rattle.outside_faults.specs.Told.{IfTold}
 use Rattle.line_link.specs.Lines.{Heard, heard_lines, newlines, AppendsFront, IsFirstLine}
 use Rattle.line_link.specs.LineReader.{LineReaderView, Takes, TakesNoLine}
 use Rattle.line_link.specs.declared.status.Status.{Status}
-use Rattle.line_link.specs.declared.status.Status.TheVariants.{Done, WriteFault, DiskFault}
+use Rattle.line_link.specs.declared.status.Status.TheVariants.{Done, WriteFault, DiskFault, Memory}
 use Rattle.line_link.proofs.FirstLines.{first-heard, first-split, newlines-append}
 use Rattle.command_words.specs.Reply.{rests_of}
 use Rattle.command_words.specs.declared.act.Act.{Act}
@@ -22,7 +22,7 @@ use Rattle.settle_core.specs.Bounds.{Bounds, standard}
 use Rattle.settle_core.specs.Legal.{IsLegal}
 use Rattle.exchange_top.proofs.Payments.{AllAreLegal, all-fair, all-pay, answered-legal, fronts-legal}
 use Rattle.exchange_top.proofs.Turns.{IsSmallStep, line-step}
-use Rattle.exchange_top.proofs.Stores.{Storing, goes_on-trans, stored-holds, whole-answered, lost-answered, step-longer, step-take, storing-since}
+use Rattle.exchange_top.proofs.Stores.{Storing, goes_on-trans, held-first, stored-holds, whole-answered, lost-answered, front-longer, front-take, storing-init, storing-since}
 use Rattle.exchange_top.specs.declared.serving.TheConstants.{MAX_INPUT}
 use Rattle.wire_json.specs.ReplyText.{text_of}
 use Rattle.exchange_top.specs.Holds.{Holds, HoldsFront, HasStored}
@@ -77,7 +77,7 @@ IsTalk-more limits first mid last (t ∷ turns) turn talk answered =
 pub rests-more : (history after : List Act) (turns : List Turn) (turn : Turn) → All (λ t. rests_of t.reply ≤ length history) turns → IsSmallStep history after turn.reply
     → All (λ t. rests_of t.reply ≤ length after) (turns ++ turn ∷ [])
 rests-more history after turns turn so_far small =
-    let wider : (t : Turn) → rests_of t.reply ≤ length history → rests_of t.reply ≤ length after = λ t few. omega (arith, few, step-longer history after small.step) in
+    let wider : (t : Turn) → rests_of t.reply ≤ length history → rests_of t.reply ≤ length after = λ t few. omega (arith, few, front-longer history after small.step) in
     All-push (λ t. rests_of t.reply ≤ length after) turns turn (All-weaker (λ t. rests_of t.reply ≤ length history) (λ t. rests_of t.reply ≤ length after) wider turns so_far) small.rests
 
 -- the texts with one more
@@ -319,6 +319,16 @@ serving-end drive is_drive disk first status lines history reader journal before
     (IfTold-weaker before.held now.held _ _ (λ a b h. h ∙ ap (λ (bytes : List ℕ). a ++ bytes) (sym (written-whole lines s.turns s.counted))) s.texts)
     (whole s.counted)
 
+-- memory was wanting as the run began, and it read no line
+pub serving-none : {D : Type 0} (drive : D → Drive) (is_drive : (d : D) → IsDrive (drive d)) (first : List Act) (journal : JournalView D) (before : Outside)
+    → Honestly (drive journal.disk) (HasStored drive first journal) → IsLegal standard first
+    → Served drive journal.disk first (record { status = Memory; lines = 0; acts = length first; disk = journal.disk }) before before
+unfolding serving-start
+serving-none drive is_drive first journal before stored legal =
+    serving-end drive is_drive journal.disk first Memory 0 first (record { pending = []; taken = 0; limit = 0; text = [] }) journal before before before.left
+    (serving-start first 0 [] before) (storing-init drive first journal stored) (held-first drive is_drive first journal stored) legal
+    (IfTold-same before.left _ (λ input. (refl, refl))) (λ whole. whole)
+
 -- what is read of a line that was told last
 read-last : (first : List Act) (lines : ℕ) (history after : List Act) (turn : Turn) (reader reader' : LineReaderView) (before now next : Outside)
     → (s : Serving first lines history reader before now) → IsTurn history after turn reader reader' now next
@@ -351,9 +361,9 @@ pub serving-lost : {D : Type 0} (drive : D → Drive) (is_drive : (d : D) → Is
     → Serving first lines history reader before now
     → Storing drive disk first history journal → Honestly (drive disk) (Holds (drive disk).bytes first) → IsLegal standard after
     → IsTurn history after turn reader reader' now next → next.held ≡ now.held
-    → (HasStored drive history journal → (image : List ℕ) → (drive later.disk).image image → Holds image history ⊎ Holds image after)
+    → (HasStored drive history journal → (image : List ℕ) → (drive later.disk).image image → HoldsFront (length history) after image)
     → (HasStored drive history journal → (moment : ℕ) (image : List ℕ) → moment ≤ (drive journal.disk).moment → (drive later.disk).image_since moment image
-    → (drive journal.disk).image_since moment image ⊎ (Holds image history ⊎ Holds image after))
+    → (drive journal.disk).image_since moment image ⊎ HoldsFront (length history) after image)
     → GoesOn (drive journal.disk) (drive later.disk)
     → Served drive disk first (record { status = DiskFault; lines = lines; acts = length after; disk = later.disk }) before next
 serving-lost drive is_drive disk first lines history after turn reader reader' journal later before now next s storing recovered legal is same image since goes =
@@ -362,11 +372,11 @@ serving-lost drive is_drive disk first lines history after turn reader reader' j
     served drive is_drive disk first DiskFault (s.turns ++ turn ∷ []) lines 0 after later.disk before next
     (record {
       recovered = recovered;
-      kept = λ honest bytes there. subst (λ (ts : List Turn). HoldsAnswered ts after bytes) (sym few) (lost-answered s.turns history after bytes small.step s.rests (image (storing.stored honest) bytes there));
+      kept = λ honest bytes there. subst (λ (ts : List Turn). HoldsAnswered ts after bytes) (sym few) (lost-answered s.turns history after bytes s.rests (image (storing.stored honest) bytes there));
       whole = λ honest fine. absurd (fine refl);
       since = storing-since drive disk first history after journal later storing small.step since;
-      front = step-take (length first) history after small.step storing.longer ∙ storing.front;
-      longer = omega (arith, storing.longer, step-longer history after small.step);
+      front = front-take (length first) history after small.step storing.longer ∙ storing.front;
+      longer = omega (arith, storing.longer, front-longer history after small.step);
       goes_on = goes_on-trans (drive disk) (drive journal.disk) (drive later.disk) storing.goes_on goes;
     })
     (IsTalk-more standard first history after s.turns turn s.talk is.answered) legal

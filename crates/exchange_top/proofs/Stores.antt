@@ -1,17 +1,18 @@
 -- A journal as a run stores its history in it.
-use Rattle.std.proofs.Common.{◌≡◌, ◌⊎◌, ℕ, suc, ◌+◌, ◌-◌, ◌<◌, ◌≤◌, List, [], ◌∷◌, ◌++◌, length, take, get_or, refl, sym, ◌∙◌, ap, subst, inl, inr, arith, length-append}
+use Rattle.std.proofs.Common.{◌≡◌, ◌⊎◌, ℕ, ◌+◌, ◌≤◌, List, [], ◌∷◌, ◌++◌, length, take, drop, refl, sym, ◌∙◌, ap, subst, inl, inr, arith, length-append}
 use Rattle.std.specs.Prelude.{All}
-use Rattle.std.proofs.lemmas.List.{take-append-le}
+use Rattle.std.proofs.lemmas.List.{append-nil, length-take-le, take-append-le}
 use Rattle.std.proofs.lemmas.List.Elements.{All-weaker}
-use Rattle.std.proofs.Math.Seq.{take-length, get_or-append_seam}
+use Rattle.std.proofs.lemmas.Slice.Zip.{AllZip-long}
+use Rattle.std.proofs.Math.Seq.{take-add, take-length}
 use Rattle.act_bytes.specs.Spelling.{Spells}
 use Rattle.command_words.specs.Reply.{rests_of}
 use Rattle.command_words.specs.declared.act.Act.{Act}
-use Rattle.journal_disk.specs.Drive.{Drive, Honestly}
+use Rattle.journal_disk.specs.Drive.{Drive, IsDrive, Honestly}
 use Rattle.journal_disk.specs.Steps.{GoesOn}
 use Rattle.journal_store.specs.Journal.{JournalView, IsOf}
 use Rattle.journal_store.specs.Stands.{HasGates, StandsForEither}
-use Rattle.exchange_top.specs.Holds.{SpellAll, Holds, HoldsFront, HasStored, IsStep}
+use Rattle.exchange_top.specs.Holds.{SpellAll, Holds, HoldsFront, HasStored, IsFront}
 use Rattle.exchange_top.specs.Run.{HoldsAnswered}
 use Rattle.exchange_top.specs.Talk.{Turn}
 
@@ -31,58 +32,60 @@ goes_on-same d = record { honest = refl; moment = omega arith }
 pub goes_on-trans : (a b c : Drive) → GoesOn a b → GoesOn b c → GoesOn a c
 goes_on-trans a b c first second = record { honest = second.honest ∙ first.honest; moment = omega (arith, first.moment, second.moment) }
 
--- one payload more spells one act more
-SpellAll-more : (payloads : List (List ℕ)) (acts : List Act) (payload : List ℕ) (act : Act) → SpellAll payloads acts → Spells payload act → SpellAll (payloads ++ payload ∷ []) (acts ++ act ∷ [])
-SpellAll-more [] [] payload act all one = (one, tt)
-SpellAll-more [] (a ∷ acts) payload act all one = absurd all
-SpellAll-more (p ∷ payloads) [] payload act all one = absurd all
-SpellAll-more (p ∷ payloads) (a ∷ acts) payload act all one = (all.0, SpellAll-more payloads acts payload act all.1 one)
+-- payloads behind others spell acts behind theirs
+SpellAll-append : (list batch : List (List ℕ)) (acts more : List Act) → SpellAll list acts → SpellAll batch more → SpellAll (list ++ batch) (acts ++ more)
+SpellAll-append [] batch [] more all behind = behind
+SpellAll-append [] batch (a ∷ acts) more all behind = absurd all
+SpellAll-append (p ∷ list) batch [] more all behind = absurd all
+SpellAll-append (p ∷ list) batch (a ∷ acts) more all behind = (all.0, SpellAll-append list batch acts more all.1 behind)
 
-spelled-batch : (list batch : List (List ℕ)) (acts : List Act) (payload : List ℕ) (act : Act) → batch ≡ payload ∷ [] → Spells payload act → SpellAll list acts → SpellAll (list ++ batch) (acts ++ act ∷ [])
-spelled-batch list batch acts payload act is spells all =
-    subst (λ (ps : List (List ℕ)). SpellAll (list ++ ps) (acts ++ act ∷ [])) (sym is) (SpellAll-more list acts payload act all spells)
+-- payloads spell the first acts of a history, and a batch the next ones
+pub record IsNext (history : List Act) (count many : ℕ) (list batch : List (List ℕ)) : Type 0 where
+  pub spelled : SpellAll list (take count history)
+  pub next : SpellAll batch (take many (drop count history))
+  pub within : count + many ≤ length history
 
--- a journal with a batch of one act behind its list
-pub stored-more : {D : Type 0} (drive : D → Drive) (before : List Act) (act : Act) (payload : List ℕ) (batch : List (List ℕ)) (journal next : JournalView D) (stored : HasStored drive before journal)
-    → batch ≡ payload ∷ [] → Spells payload act → IsOf drive (stored.list ++ batch) next → HasStored drive (before ++ act ∷ []) next
-stored-more drive before act payload batch journal next stored is spells kept =
-    record { list = stored.list ++ batch; kept = kept; spelled = spelled-batch stored.list batch before payload act is spells stored.spelled }
+next-spelled : (history : List Act) (count many : ℕ) (list batch : List (List ℕ)) → IsNext history count many list batch → SpellAll (list ++ batch) (take (count + many) history)
+next-spelled history count many list batch is =
+    subst (SpellAll (list ++ batch)) (sym (take-add count many history)) (SpellAll-append list batch (take count history) (take many (drop count history)) is.spelled is.next)
+
+-- a journal with the batch behind its list
+pub stored-more : {D : Type 0} (drive : D → Drive) (history : List Act) (count many : ℕ) (list batch : List (List ℕ)) (next : JournalView D) → IsNext history count many list batch
+    → IsOf drive (list ++ batch) next → HasStored drive (take next.count history) next
+stored-more drive history count many list batch next is kept =
+    let spelled = next-spelled history count many list batch is in
+    let counted = kept.count ∙ (sym (AllZip-long Spells (list ++ batch) (take (count + many) history) spelled) ∙ length-take-le (count + many) history is.within) in
+    record { list = list ++ batch; kept = kept; spelled = subst (λ (n : ℕ). SpellAll (list ++ batch) (take n history)) (sym counted) spelled }
 
 -- an image that stands for the list, or for that with the batch
-pub either-holds : {D : Type 0} (drive : D → Drive) (before : List Act) (act : Act) (payload : List ℕ) (batch : List (List ℕ)) (journal : JournalView D) (image : List ℕ) (stored : HasStored drive before journal)
-    → batch ≡ payload ∷ [] → Spells payload act → StandsForEither stored.list batch image → Holds image before ⊎ Holds image (before ++ act ∷ [])
-either-holds drive before act payload batch journal image stored is spells (inl old) = inl (stored.list, old, stored.spelled)
-either-holds drive before act payload batch journal image stored is spells (inr new) = inr (stored.list ++ batch, new, spelled-batch stored.list batch before payload act is spells stored.spelled)
+pub either-holds : (history : List Act) (count many : ℕ) (list batch : List (List ℕ)) (image : List ℕ) → IsNext history count many list batch → StandsForEither list batch image → HoldsFront count history image
+either-holds history count many list batch image is (inl old) = record { acts = count; held = (list, old, is.spelled); at_least = omega arith; within = omega (arith, is.within) }
+either-holds history count many list batch image is (inr new) = record { acts = count + many; held = (list ++ batch, new, next-spelled history count many list batch is); at_least = omega arith; within = is.within }
 
 -- the same at some moment
-pub either-since : {D Early : Type 0} (drive : D → Drive) (before : List Act) (act : Act) (payload : List ℕ) (batch : List (List ℕ)) (journal : JournalView D) (image : List ℕ) (stored : HasStored drive before journal)
-    → batch ≡ payload ∷ [] → Spells payload act → Early ⊎ StandsForEither stored.list batch image → Early ⊎ (Holds image before ⊎ Holds image (before ++ act ∷ []))
-either-since drive before act payload batch journal image stored is spells (inl early) = inl early
-either-since drive before act payload batch journal image stored is spells (inr stands) = inr (either-holds drive before act payload batch journal image stored is spells stands)
-
-spelled-length : (payloads : List (List ℕ)) (acts : List Act) → SpellAll payloads acts → length payloads ≡ length acts
-spelled-length [] [] all = refl
-spelled-length [] (a ∷ acts) all = absurd all
-spelled-length (p ∷ payloads) [] all = absurd all
-spelled-length (p ∷ payloads) (a ∷ acts) all = ap suc (spelled-length payloads acts all.1)
+pub either-since : {Early : Type 0} (history : List Act) (count many : ℕ) (list batch : List (List ℕ)) (image : List ℕ) → IsNext history count many list batch → Early ⊎ StandsForEither list batch image → Early ⊎ HoldsFront count history image
+either-since history count many list batch image is (inl early) = inl early
+either-since history count many list batch image is (inr stands) = inr (either-holds history count many list batch image is stands)
 
 -- the journal has as many payloads as the history has acts
 pub stored-count : {D : Type 0} (drive : D → Drive) (history : List Act) (journal : JournalView D) → HasStored drive history journal → journal.count ≡ length history
-stored-count drive history journal stored = stored.kept.count ∙ spelled-length stored.list history stored.spelled
+stored-count drive history journal stored = stored.kept.count ∙ sym (AllZip-long Spells stored.list history stored.spelled)
 
--- what a step that isn't stored yet is: the last act, where the journal has one act less
-pub step-act : (before after : List Act) (act : Act) (count : ℕ) → IsStep before after → count ≡ length before → count < length after
-    → act ≡ get_or after (length after - 1) act → after ≡ before ++ act ∷ []
-step-act before after act count (inl same) counted less last = absurd (omega (arith, counted, less, ap length same))
-step-act before after act count (inr more) counted less last =
-    let end : length after - 1 ≡ length before = omega (arith, ap length more.1, length-append before (more.0 ∷ [])) in
-    let here : act ≡ more.0 = last ∙ (ap (λ (n : ℕ). get_or after n act) end ∙ (ap (λ (acts : List Act). get_or acts (length before) act) more.1 ∙ get_or-append_seam before more.0 [] act)) in
-    more.1 ∙ ap (λ (a : Act). before ++ a ∷ []) (sym here)
+-- a front of a history is what the history begins with
+pub front-same : (history : List Act) → IsFront history history
+front-same history = ([], sym (append-nil history))
 
--- a step that is stored already adds nothing
-pub step-none : (before after : List Act) (count : ℕ) → IsStep before after → count ≡ length before → length after ≤ count → after ≡ before
-step-none before after count (inl same) counted few = same
-step-none before after count (inr more) counted few = absurd (omega (arith, counted, few, ap length more.1, length-append before (more.0 ∷ [])))
+pub front-longer : (before after : List Act) → IsFront before after → length before ≤ length after
+front-longer before after front = omega (arith, ap length front.1, length-append before front.0)
+
+pub front-take : (count : ℕ) (before after : List Act) → IsFront before after → count ≤ length before → take count after ≡ take count before
+front-take count before after front inside = ap (take count) front.1 ∙ take-append-le count before front.0 inside
+
+pub front-stored : {D : Type 0} (drive : D → Drive) (before after : List Act) (journal : JournalView D) → IsFront before after → HasStored drive before journal → HasStored drive (take journal.count after) journal
+front-stored drive before after journal front stored =
+    let counted = stored-count drive before journal stored in
+    let same : take journal.count after ≡ before = ap (λ (n : ℕ). take n after) counted ∙ (front-take (length before) before after front (omega arith) ∙ take-length before) in
+    subst (λ (acts : List Act). HasStored drive acts journal) (sym same) stored
 
 -- an image of a disk that has a history stored holds it
 pub stored-holds : {D : Type 0} (drive : D → Drive) (history : List Act) (journal : JournalView D) (image : List ℕ) → HasStored drive history journal → (drive journal.disk).image image → Holds image history
@@ -91,34 +94,13 @@ stored-holds drive history journal image stored now =
     let same : image ≡ (drive journal.disk).bytes = at.stored image now in
     (stored.list, inr (at.batches, at.gate, at.rest, subst (HasGates at.batches at.gate at.rest) (sym same) at.gates, at.listed), stored.spelled)
 
--- an image that holds the whole history holds a front of it
-pub whole-front : (least : ℕ) (history : List Act) (image : List ℕ) → least ≤ length history → Holds image history → HoldsFront least history image
-whole-front least history image few holds = record {
-  acts = length history;
-  held = subst (Holds image) (sym (take-length history)) holds;
-  at_least = few;
-  within = omega arith;
-}
-
--- a step adds to the history and takes nothing away
-pub step-longer : (before after : List Act) → IsStep before after → length before ≤ length after
-step-longer before after (inl same) = omega (arith, ap length same)
-step-longer before after (inr more) = omega (arith, ap length more.1, length-append before (more.0 ∷ []))
-
-pub step-short : (before after : List Act) → IsStep before after → length after ≤ length before + 1
-step-short before after (inl same) = omega (arith, ap length same)
-step-short before after (inr more) = omega (arith, ap length more.1, length-append before (more.0 ∷ []))
-
-pub step-take : (count : ℕ) (before after : List Act) → IsStep before after → count ≤ length before → take count after ≡ take count before
-step-take count before after (inl same) inside = ap (take count) same
-step-take count before after (inr more) inside = ap (take count) more.1 ∙ take-append-le count before (more.0 ∷ []) inside
-
-pub step-front : (least : ℕ) (before after : List Act) (image : List ℕ) → IsStep before after → HoldsFront least before image → HoldsFront least after image
-step-front least before after image step holds = record {
+-- an image that holds a front of a history holds one of what goes on from it, of fewer acts at the least
+pub front-holds : (least more : ℕ) (before after : List Act) (image : List ℕ) → IsFront before after → least ≤ more → HoldsFront more before image → HoldsFront least after image
+front-holds least more before after image front few holds = record {
   acts = holds.acts;
-  held = subst (Holds image) (sym (step-take holds.acts before after step holds.within)) holds.held;
-  at_least = holds.at_least;
-  within = omega (arith, holds.within, step-longer before after step);
+  held = subst (Holds image) (sym (front-take holds.acts before after front holds.within)) holds.held;
+  at_least = omega (arith, few, holds.at_least);
+  within = omega (arith, holds.within, front-longer before after front);
 }
 
 -- an image that holds the history on which the replies rest
@@ -130,13 +112,11 @@ whole-answered turns history image rests holds = record {
   within = omega arith;
 }
 
-pub step-answered : (turns : List Turn) (before after : List Act) (image : List ℕ) → IsStep before after → HoldsAnswered turns before image → HoldsAnswered turns after image
-step-answered turns before after image step holds = record {
-  acts = holds.acts;
-  held = subst (Holds image) (sym (step-take holds.acts before after step holds.within)) holds.held;
-  answered = holds.answered;
-  within = omega (arith, holds.within, step-longer before after step);
-}
+-- the disk holds the history that its journal has stored
+pub held-first : {D : Type 0} (drive : D → Drive) (is_drive : (d : D) → IsDrive (drive d)) (history : List Act) (journal : JournalView D) → Honestly (drive journal.disk) (HasStored drive history journal)
+    → Honestly (drive journal.disk) (Holds (drive journal.disk).bytes history)
+held-first drive is_drive history journal stored honest =
+    stored-holds drive history journal (drive journal.disk).bytes (stored honest) ((is_drive journal.disk).bytes honest)
 
 -- the journal as the run begins
 pub storing-init : {D : Type 0} (drive : D → Drive) (history : List Act) (journal : JournalView D) → Honestly (drive journal.disk) (HasStored drive history journal) → Storing drive journal.disk history history journal
@@ -148,47 +128,47 @@ storing-init drive history journal stored = record {
   goes_on = goes_on-same (drive journal.disk);
 }
 
--- an image of a moment while a step was stored
-since-step : (least : ℕ) (before after : List Act) (image : List ℕ) {Early Earlier : Type 0} → IsStep before after → least ≤ length before
-    → (Earlier → Early ⊎ HoldsFront least before image) → Earlier ⊎ (Holds image before ⊎ Holds image after) → Early ⊎ HoldsFront least after image
-since-step least before after image step few back (inl earlier) =
-    elim (back earlier) [ inl early ↦ inl early | inr front ↦ inr (step-front least before after image step front) ]
-since-step least before after image step few back (inr (inl old)) = inr (step-front least before after image step (whole-front least before image few old))
-since-step least before after image step few back (inr (inr new)) = inr (whole-front least after image (omega (arith, few, step-longer before after step)) new)
+-- an image of a moment while more acts were stored
+pub since-front : (least more : ℕ) (before after : List Act) (image : List ℕ) {Early Earlier : Type 0} → IsFront before after → least ≤ more
+    → (Earlier → Early ⊎ HoldsFront least before image) → Earlier ⊎ HoldsFront more after image → Early ⊎ HoldsFront least after image
+since-front least more before after image front few back (inl earlier) =
+    elim (back earlier) [ inl early ↦ inl early | inr held ↦ inr (front-holds least least before after image front (omega arith) held) ]
+since-front least more before after image front few back (inr held) = inr (front-holds least more after after image (front-same after) few held)
 
--- one step more is stored
-pub storing-step : {D : Type 0} (drive : D → Drive) (disk : D) (first before after : List Act) (journal next : JournalView D)
-    → Storing drive disk first before journal → IsStep before after
+-- while a line's acts were stored, each image since the run began is one that was there or holds a front
+pub storing-since : {D : Type 0} (drive : D → Drive) (disk : D) (first before after : List Act) (journal next : JournalView D)
+    → Storing drive disk first before journal → IsFront before after
+    → (HasStored drive before journal → (moment : ℕ) (image : List ℕ) → moment ≤ (drive journal.disk).moment → (drive next.disk).image_since moment image
+    → (drive journal.disk).image_since moment image ⊎ HoldsFront (length before) after image)
+    → Honestly (drive disk) ((moment : ℕ) (image : List ℕ) → moment ≤ (drive disk).moment → (drive next.disk).image_since moment image
+    → (drive disk).image_since moment image ⊎ HoldsFront (length first) after image)
+storing-since drive disk first before after journal next s front since honest moment image early now =
+    since-front (length first) (length before) before after image front s.longer (λ earlier. s.since honest moment image early earlier)
+    (since (s.stored honest) moment image (omega (arith, early, s.goes_on.moment)) now)
+
+-- the acts of a line more are stored
+pub storing-more : {D : Type 0} (drive : D → Drive) (disk : D) (first before after : List Act) (journal next : JournalView D)
+    → Storing drive disk first before journal → IsFront before after
     → (HasStored drive before journal → HasStored drive after next)
     → (HasStored drive before journal → (moment : ℕ) (image : List ℕ) → moment ≤ (drive journal.disk).moment → (drive next.disk).image_since moment image
-    → (drive journal.disk).image_since moment image ⊎ (Holds image before ⊎ Holds image after))
+    → (drive journal.disk).image_since moment image ⊎ HoldsFront (length before) after image)
     → GoesOn (drive journal.disk) (drive next.disk)
     → Storing drive disk first after next
-storing-step drive disk first before after journal next s step ok since goes = record {
+storing-more drive disk first before after journal next s front ok since goes = record {
   stored = λ honest. ok (s.stored honest);
-  since = λ honest moment image early now.
-      since-step (length first) before after image step s.longer (λ earlier. s.since honest moment image early earlier)
-      (since (s.stored honest) moment image (omega (arith, early, s.goes_on.moment)) now);
-  front = step-take (length first) before after step s.longer ∙ s.front;
-  longer = omega (arith, s.longer, step-longer before after step);
+  since = storing-since drive disk first before after journal next s front since;
+  front = front-take (length first) before after front s.longer ∙ s.front;
+  longer = omega (arith, s.longer, front-longer before after front);
   goes_on = goes_on-trans (drive disk) (drive journal.disk) (drive next.disk) s.goes_on goes;
 }
 
--- while a step was stored that failed, each image since the run began is one that was there or holds a front
-pub storing-since : {D : Type 0} (drive : D → Drive) (disk : D) (first before after : List Act) (journal next : JournalView D)
-    → Storing drive disk first before journal → IsStep before after
-    → (HasStored drive before journal → (moment : ℕ) (image : List ℕ) → moment ≤ (drive journal.disk).moment → (drive next.disk).image_since moment image
-    → (drive journal.disk).image_since moment image ⊎ (Holds image before ⊎ Holds image after))
-    → Honestly (drive disk) ((moment : ℕ) (image : List ℕ) → moment ≤ (drive disk).moment → (drive next.disk).image_since moment image
-    → (drive disk).image_since moment image ⊎ HoldsFront (length first) after image)
-storing-since drive disk first before after journal next s step since honest moment image early now =
-    since-step (length first) before after image step s.longer (λ earlier. s.since honest moment image early earlier)
-    (since (s.stored honest) moment image (omega (arith, early, s.goes_on.moment)) now)
-
--- while a step was stored that failed, an image has every act on which the earlier replies rest
-pub lost-answered : (turns : List Turn) (before after : List Act) (image : List ℕ) → IsStep before after → All (λ turn. rests_of turn.reply ≤ length before) turns
-    → Holds image before ⊎ Holds image after → HoldsAnswered turns after image
-lost-answered turns before after image step rests (inl old) = step-answered turns before after image step (whole-answered turns before image rests old)
-lost-answered turns before after image step rests (inr new) =
-    let wider : (t : Turn) → rests_of t.reply ≤ length before → rests_of t.reply ≤ length after = λ t few. omega (arith, few, step-longer before after step) in
-    whole-answered turns after image (All-weaker (λ t. rests_of t.reply ≤ length before) (λ t. rests_of t.reply ≤ length after) wider turns rests) new
+-- while a line's acts were stored and the disk failed, an image has every act on which the earlier replies rest
+pub lost-answered : (turns : List Turn) (before after : List Act) (image : List ℕ) → All (λ turn. rests_of turn.reply ≤ length before) turns → HoldsFront (length before) after image → HoldsAnswered turns after image
+lost-answered turns before after image rests holds =
+    let wider : (t : Turn) → rests_of t.reply ≤ length before → rests_of t.reply ≤ holds.acts = λ t few. omega (arith, few, holds.at_least) in
+    record {
+      acts = holds.acts;
+      held = holds.held;
+      answered = All-weaker (λ t. rests_of t.reply ≤ length before) (λ t. rests_of t.reply ≤ holds.acts) wider turns rests;
+      within = holds.within;
+    }

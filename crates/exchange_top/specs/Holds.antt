@@ -1,5 +1,5 @@
 -- What history an image holds.
-use Rattle.std.specs.Prelude.{◌≡◌, ◌⊎◌, ℕ, ◌≤◌, List, [], ◌∷◌, ◌++◌, length, take}
+use Rattle.std.specs.Prelude.{◌≡◌, ℕ, ◌≤◌, List, ◌++◌, length, take}
 use Rattle.std.specs.List.{AllZip}
 use Rattle.act_bytes.specs.Spelling.{Spells}
 use Rattle.command_words.specs.declared.act.Act.{Act}
@@ -28,6 +28,6 @@ pub record HasStored {D : Type 0} (drive : D → Drive) (history : List Act) (jo
   pub kept : IsOf drive list journal
   pub spelled : SpellAll list history
 
--- a history is another one, or that with one act more
-abbrev pub IsStep : List Act → List Act → Type 0
-IsStep before after = (after ≡ before) ⊎ ((act : Act) × (after ≡ before ++ act ∷ []))
+-- a history goes on from another by some acts
+abbrev pub IsFront : List Act → List Act → Type 0
+IsFront before after = (acts : List Act) × (after ≡ before ++ acts)

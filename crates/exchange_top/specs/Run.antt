@@ -50,14 +50,15 @@ pub record AreWhole (lines : List Heard) (input left : List ℕ) : Type 0 where
   pub no_fewer : newlines taken ≤ length lines
 
 -- Which lines of the input were heard, and what was left of it, by how a run ended that opened its journal: all lines at
--- the end of the input; all whole lines of what was taken where no more could be; and the first ones where the last
--- reply couldn't be stored or written. Such a run ends in no other way.
+-- the end of the input; all whole lines of what was taken where no more could be; the first ones where the last reply
+-- couldn't be stored or written; and none where memory was wanting at its start. Such a run ends in no other way.
 abbrev pub IsRead : Status → List Heard → List ℕ → List ℕ → Type 0
 IsRead Done lines input left = (lines ≡ heard_lines input) × (left ≡ [])
 IsRead ReadFault lines input left = AreWhole lines input left
 IsRead InputLimit lines input left = AreWhole lines input left
 IsRead WriteFault lines input left = AreFirst lines input
 IsRead DiskFault lines input left = AreFirst lines input
+IsRead Memory lines input left = (lines ≡ []) × (left ≡ input)
 IsRead status lines input left = ⊥
 
 -- the texts of the replies, one after another
@@ -76,6 +77,7 @@ IsWritten ReadFault whole more turns = length turns ≡ whole
 IsWritten InputLimit whole more turns = length turns ≡ whole
 IsWritten WriteFault whole more turns = (length turns ≡ whole + 1) × (more < length (texts (drop whole turns)))
 IsWritten DiskFault whole more turns = (length turns ≡ whole + 1) × (more ≡ 0)
+IsWritten Memory whole more turns = length turns ≡ whole
 IsWritten status whole more turns = ⊥
 
 -- an image holds a front of the history that has every act on which the replies of these turns rest

@@ -2,15 +2,12 @@
 use Rattle.std.specs.Prelude.{◌≡◌, ℕ, Bool, true, false, MatchBool, List, [], ◌∷◌, Result, Ok, Err}
 use Rattle.line_link.specs.Lines.{Heard, kept, too_long}
 use Rattle.command_words.specs.declared.act.Act.{Act}
-use Rattle.command_words.specs.declared.refusal.Refusal.{Refusal}
-use Rattle.command_words.specs.declared.refusal.Refusal.TheVariants as refusal
 use Rattle.command_words.specs.declared.line_fault.LineFault.{LineFault}
-use Rattle.command_words.specs.declared.line_fault.LineFault.TheVariants.{TooLong, NotCommand, Memory}
+use Rattle.command_words.specs.declared.line_fault.LineFault.TheVariants.{TooLong, Memory}
 use Rattle.command_words.specs.declared.reply.Reply.{Reply}
-use Rattle.command_words.specs.declared.reply.Reply.TheVariants.{Refused, Bad}
+use Rattle.command_words.specs.declared.reply.Reply.TheVariants.{Bad}
 use Rattle.settle_core.specs.Bounds.{Bounds}
-use Rattle.settle_core.specs.Built.{is_built}
-use Rattle.settle_core.specs.Reply.{Answered, no_memory}
+use Rattle.settle_core.specs.Reply.{Answered}
 use Rattle.wire_json.specs.Request.{request}
 use Rattle.wire_json.specs.declared.request.Request.{Request}
 
@@ -19,11 +16,6 @@ pub record Turn : Type 0 where
   pub line : Heard
   pub moment : ℕ
   pub reply : Reply
-
--- the reply to a refused command over a history of this length
-abbrev pub refused_reply : Refusal → ℕ → Reply
-refused_reply refusal.Memory rests = no_memory
-refused_reply refusal rests = Refused refusal rests
 
 abbrev pub is_memory_fault : LineFault → Bool
 is_memory_fault Memory = true
@@ -38,13 +30,9 @@ is_unread reply = false
 abbrev pub AnsweredFault : List Act → LineFault → Reply → List Act → Type 0
 AnsweredFault history fault reply after = (reply ≡ Bad fault) × (after ≡ history)
 
--- A request is answered by the rules of the exchange, or is no command where it isn't carried out so far; a faulty line
--- is answered with its fault.
+-- a request is answered by the rules of the exchange, and a faulty line with its fault
 abbrev pub AnsweredRequest : Bounds → List Act → Result Request LineFault → ℕ → Reply → List Act → Type 0
-AnsweredRequest limits history (Ok r) moment reply after =
-    MatchBool (is_built r.command)
-    (Answered (record { limits = limits; history = history; account = r.account; command = r.command; moment = moment }) reply after)
-    (AnsweredFault history NotCommand reply after)
+AnsweredRequest limits history (Ok r) moment reply after = Answered (record { limits = limits; history = history; account = r.account; command = r.command; moment = moment }) reply after
 AnsweredRequest limits history (Err fault) moment reply after = AnsweredFault history fault reply after
 
 -- A line is answered at a moment over a history, and this is the history afterwards. Want of memory may be answered

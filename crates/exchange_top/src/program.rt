@@ -18,6 +18,7 @@ use crate::serving::{Desk, serve};
 use command_words::Clock;
 use condition_sets::NoMemory;
 use journal_disk::Disk;
+use ledger_lock::House;
 use line_link::{Sink, Source, Status, WriteFault, write_all};
 use settle_core::Limits;
 use std::alloc::Global;
@@ -66,7 +67,18 @@ pub fn run<R: Source, W: Sink, D: Disk, C: Clock>(
         Err(NoMemory) => return unopened(Status::Memory, disk),
     };
     match recover(alloc, Limits::standard(), disk) {
-        Ok(opened) => serve(alloc, desk, opened, source, sink, clock),
+        Ok(opened) => {
+            let acts = opened.exchange.history().len() as u64;
+            match House::new(alloc, opened.exchange) {
+                Ok(house) => serve(alloc, desk, house, opened.journal, source, sink, clock),
+                Err(NoMemory) => Ended {
+                    status: Status::Memory,
+                    lines: 0,
+                    acts,
+                    disk: opened.journal.give_up(),
+                },
+            }
+        }
         Err(failed) => stop(failed, desk.text, sink),
     }
 }

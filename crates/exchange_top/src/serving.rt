@@ -1,4 +1,4 @@
-//! Answering lines over an exchange whose journal is open.
+//! Answering lines over a house whose journal is open.
 
 ghost use Rattle.std.specs.Prelude.{◌≡◌, ◌+◌, ◌<◌, ◌≤◌, [], length, false, IfOk};
 ghost use Rattle.command_words.specs.Reply.{IsSound};
@@ -19,6 +19,7 @@ use command_words::{Clock, Reply};
 use condition_sets::NoMemory;
 use journal_disk::Disk;
 use journal_store::{Batch, DiskFault, Journal};
+use ledger_lock::House;
 use line_link::{LineReader, ReadEnd, Sink, Source, Status, WriteFault, write_all};
 use settle_core::Exchange;
 use std::alloc::Global;
@@ -55,16 +56,16 @@ impl Desk {
     }
 }
 
-/// The end of a run over an exchange, that wrote so many replies whole.
-fn end<D: Disk>(status: Status, lines: u64, opened: Opened<D>) -> Ended<D>
-    ensures value { result ≡ record { status = status; lines = lines; acts = length opened.exchange.history; disk = opened.journal.disk } }
-    ensures legal { IsLegal opened.exchange.limits opened.exchange.history }
+/// The end of a run over a house, that wrote so many replies whole.
+fn end<D: Disk>(status: Status, lines: u64, house: House, journal: Journal<D>) -> Ended<D>
+    ensures value { result ≡ record { status = status; lines = lines; acts = length house.history; disk = journal.disk } }
+    ensures legal { IsLegal house.limits house.history }
 {
     Ended {
         status,
         lines,
-        acts: opened.exchange.history().len() as u64,
-        disk: opened.journal.give_up(),
+        acts: house.exchange().history().len() as u64,
+        disk: journal.give_up(),
     }
 }
 
@@ -80,48 +81,49 @@ fn spell(reply: Reply, into: &mut Text)
 pub(crate) fn serve<R: Source, W: Sink, D: Disk, C: Clock>(
     alloc: Global,
     mut desk: Desk,
-    mut opened: Opened<D>,
+    mut house: House,
+    mut journal: Journal<D>,
     source: &mut R,
     sink: &mut W,
     clock: &mut C,
 ) -> Ended<D>
     requires reader { desk.reader ≡ record { pending = []; taken = 0; limit = MAX_INPUT; text = [] } }
-    requires limits { opened.exchange.limits ≡ standard }
-    requires sound { opened.journal.broken ≡ false }
-    requires count { opened.journal.count ≡ length opened.exchange.history }
-    requires stored { Honestly (D.drive opened.journal.disk) (HasStored D.drive opened.exchange.history opened.journal) }
+    requires limits { house.limits ≡ standard }
+    requires sound { journal.broken ≡ false }
+    requires count { journal.count ≡ length house.history }
+    requires stored { Honestly (D.drive journal.disk) (HasStored D.drive house.history journal) }
 
-    ensures served { Served D.drive opened.journal.disk opened.exchange.history result
+    ensures served { Served D.drive journal.disk house.history result
         (outside (R.left source.old) (W.held sink.old) (C.may_have_told clock.old))
         (outside (R.left source.new) (W.held sink.new) (C.may_have_told clock.new)) }
 
     ensures read_fault { result.status ≡ Status.ReadFault → Rose (R.read_faults source.old) (R.read_faults source.new) }
     ensures write_fault { result.status ≡ Status.WriteFault → Rose (W.write_faults sink.old) (W.write_faults sink.new) }
-    ensures disk_fault { result.status ≡ Status.DiskFault → Rose (D.drive opened.journal.disk).faults (D.drive result.disk).faults }
+    ensures disk_fault { result.status ≡ Status.DiskFault → Rose (D.drive journal.disk).faults (D.drive result.disk).faults }
     ensures input_limit { result.status ≡ Status.InputLimit → IfTold (R.left source.old) (R.left source.new)
         (λ input left. length input ≡ MAX_INPUT + length left) }
     ensures below_limit { result.status ≡ Status.ReadFault → IfTold (R.left source.old) (R.left source.new)
         (λ input left. length input < MAX_INPUT + length left) }
-    ensures never_falls { (D.drive opened.journal.disk).faults ≤ (D.drive result.disk).faults }
+    ensures never_falls { (D.drive journal.disk).faults ≤ (D.drive result.disk).faults }
 {
     let mut lines = 0u64;
     'lines: loop {
         let line = match desk.reader.next(source) {
             Ok(line) => line,
-            Err(ReadEnd::End) => return end(Status::Done, lines, opened),
-            Err(ReadEnd::ReadFault) => return end(Status::ReadFault, lines, opened),
-            Err(ReadEnd::InputLimit) => return end(Status::InputLimit, lines, opened),
+            Err(ReadEnd::End) => return end(Status::Done, lines, house, journal),
+            Err(ReadEnd::ReadFault) => return end(Status::ReadFault, lines, house, journal),
+            Err(ReadEnd::InputLimit) => return end(Status::InputLimit, lines, house, journal),
         };
         let now = clock.now();
-        let reply = answer_line(alloc, &mut opened.exchange, line, desk.reader.text(), now);
-        match store_new(&opened.exchange, &mut opened.journal, &mut desk.batch) {
+        let reply = answer_line(alloc, &mut house, line, desk.reader.text(), now);
+        match store_new(&house, &mut journal, &mut desk.batch) {
             Ok(()) => {}
-            Err(DiskFault) => return end(Status::DiskFault, lines, opened),
+            Err(DiskFault) => return end(Status::DiskFault, lines, house, journal),
         }
         spell(reply, &mut desk.text);
         match write_all(sink, desk.text.as_slice()) {
             Ok(()) => lines += 1,
-            Err(WriteFault) => return end(Status::WriteFault, lines, opened),
+            Err(WriteFault) => return end(Status::WriteFault, lines, house, journal),
         }
     }
 }

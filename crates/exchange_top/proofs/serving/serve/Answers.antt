@@ -1,27 +1,18 @@
 use Rattle.std.proofs.Common.{◌≡◌, ℕ, List, Err, refl, sym, ◌∙◌, ap, subst, arith}
 use Rattle.std.specs.Io.KnownBytes.{Appends}
 use Rattle.outside_faults.proofs.Told.{IfTold-weaker}
-use Rattle.journal_disk.specs.Drive.{Drive, IsDrive, Honestly}
-use Rattle.journal_store.specs.Journal.{JournalView}
 use Rattle.line_link.specs.LineReader.{LineReaderView, heard, untold}
 use Rattle.line_link.specs.Lines.{AppendsFront}
 use Rattle.line_link.specs.declared.status.Status.TheVariants.{Done, ReadFault, InputLimit}
 use Rattle.command_words.specs.declared.act.Act.{Act}
 use Rattle.settle_core.specs.Bounds.{Bounds}
 use Rattle.settle_core.specs.Legal.{IsLegal}
-use Rattle.exchange_top.specs.Holds.{Holds, HasStored}
 use Rattle.exchange_top.specs.Run.{outside, Served}
 use Rattle.exchange_top.specs.Talk.{Turn, AnsweredLine}
 use Rattle.exchange_top.specs.declared.ended.Ended.{Ended}
 use Rattle.exchange_top.proofs.Runs.{IsTurn, serving-init, serving-step, serving-end, serving-all, serving-whole, serving-taken, serving-cut, serving-lost}
-use Rattle.exchange_top.proofs.Stores.{storing-init, storing-step, stored-holds, step-longer, step-short}
+use Rattle.exchange_top.proofs.Stores.{front-longer, held-first, storing-init, storing-more}
 use Rattle.exchange_top.proofs.serving.serve.Goals as goal
-
--- the disk holds the history that its journal has stored
-held-first : {D : Type 0} (drive : D → Drive) (is_drive : (d : D) → IsDrive (drive d)) (history : List Act) (journal : JournalView D) → Honestly (drive journal.disk) (HasStored drive history journal)
-    → Honestly (drive journal.disk) (Holds (drive journal.disk).bytes history)
-held-first drive is_drive history journal stored honest =
-    stored-holds drive history journal (drive journal.disk).bytes (stored honest) ((is_drive journal.disk).bytes honest)
 
 -- the limits that the exchange has are those of the run, and the text is the reader's
 line-answered : (limits here : Bounds) (history after : List Act) (turn : Turn) (line : List ℕ → Turn) (told text : List ℕ) → here ≡ limits → told ≡ text → line text ≡ turn
@@ -33,8 +24,8 @@ line-answered limits here history after turn line told text same read is answere
 
 pub lines-init : goal.lines-init
 lines-init g c = record {
-  serving = serving-init c.args.opened.exchange.history c.args.desk.reader _ c.requires.reader;
-  storing = storing-init g.D.Disk.drive c.args.opened.exchange.history c.args.opened.journal c.requires.stored;
+  serving = serving-init c.args.house.history c.args.desk.reader _ c.requires.reader;
+  storing = storing-init g.D.Disk.drive c.args.house.history c.args.journal c.requires.stored;
   sound = c.requires.sound;
   count = c.requires.count;
   limits = c.requires.limits;
@@ -46,10 +37,7 @@ lines-init g c = record {
 }
 
 pub store_new-requires-clause-at_least : goal.store_new-requires-clause-at_least
-store_new-requires-clause-at_least g c = omega (arith, c.lines.invariant.count, step-longer c.lines.opened.exchange.history c.answer_line-reply.new.exchange.history c.answer_line-reply.ensures.step)
-
-pub store_new-requires-clause-at_most : goal.store_new-requires-clause-at_most
-store_new-requires-clause-at_most g c = omega (arith, c.lines.invariant.count, step-short c.lines.opened.exchange.history c.answer_line-reply.new.exchange.history c.answer_line-reply.ensures.step)
+store_new-requires-clause-at_least g c = omega (arith, c.lines.invariant.count, front-longer c.lines.house.history c.answer_line-reply.new.house.history c.answer_line-reply.ensures.front)
 
 pub returns-in-Err-End-clause-served : goal.returns-in-Err-End-clause-served
 returns-in-Err-End-clause-served g c =
@@ -57,13 +45,13 @@ returns-in-Err-End-clause-served g c =
     let before = outside (left c.args.source.now) (g.W.Sink.held c.args.sink.now) (g.C.Clock.may_have_told c.args.clock.now) in
     let now = outside (left c.lines.source) (g.W.Sink.held c.lines.sink) (g.C.Clock.may_have_told c.lines.clock) in
     let next = outside (left c.next.new.source) (g.W.Sink.held c.lines.sink) (g.C.Clock.may_have_told c.lines.clock) in
-    let first = c.args.opened.exchange.history in
+    let first = c.args.house.history in
     let s = c.lines.invariant.serving in
-    let read = serving-all first c.lines.lines c.lines.opened.exchange.history c.lines.desk.reader before now (left c.next.new.source) s (c.in-Err-End.ensures.end (ap Err c.in-Err-End.field-0-is)) in
-    let legal = subst (λ (limits : Bounds). IsLegal limits c.lines.opened.exchange.history) c.lines.invariant.limits c.end.ensures.legal in
-    subst (λ (e : Ended g.row.D.Denot). Served g.D.Disk.drive c.args.opened.journal.disk first e before next) (sym c.end.ensures.value)
-    (serving-end g.D.Disk.drive g.D.Disk.is_drive c.args.opened.journal.disk first Done c.lines.lines c.lines.opened.exchange.history c.lines.desk.reader c.lines.opened.journal before now (left c.next.new.source)
-    s c.lines.invariant.storing (held-first g.D.Disk.drive g.D.Disk.is_drive first c.args.opened.journal c.requires.stored) legal read (λ whole. whole))
+    let read = serving-all first c.lines.lines c.lines.house.history c.lines.desk.reader before now (left c.next.new.source) s (c.in-Err-End.ensures.end (ap Err c.in-Err-End.field-0-is)) in
+    let legal = subst (λ (limits : Bounds). IsLegal limits c.lines.house.history) c.lines.invariant.limits c.end.ensures.legal in
+    subst (λ (e : Ended g.row.D.Denot). Served g.D.Disk.drive c.args.journal.disk first e before next) (sym c.end.ensures.value)
+    (serving-end g.D.Disk.drive g.D.Disk.is_drive c.args.journal.disk first Done c.lines.lines c.lines.house.history c.lines.desk.reader c.lines.journal before now (left c.next.new.source)
+    s c.lines.invariant.storing (held-first g.D.Disk.drive g.D.Disk.is_drive first c.args.journal c.requires.stored) legal read (λ whole. whole))
 
 pub returns-in-Err-ReadFault-clause-served : goal.returns-in-Err-ReadFault-clause-served
 returns-in-Err-ReadFault-clause-served g c =
@@ -71,13 +59,13 @@ returns-in-Err-ReadFault-clause-served g c =
     let before = outside (left c.args.source.now) (g.W.Sink.held c.args.sink.now) (g.C.Clock.may_have_told c.args.clock.now) in
     let now = outside (left c.lines.source) (g.W.Sink.held c.lines.sink) (g.C.Clock.may_have_told c.lines.clock) in
     let next = outside (left c.next.new.source) (g.W.Sink.held c.lines.sink) (g.C.Clock.may_have_told c.lines.clock) in
-    let first = c.args.opened.exchange.history in
+    let first = c.args.house.history in
     let s = c.lines.invariant.serving in
-    let read = serving-whole first c.lines.lines c.next.new.self.taken c.lines.opened.exchange.history c.lines.desk.reader before now (left c.next.new.source) s c.in-Err-ReadFault.ensures.taken c.in-Err-ReadFault.ensures.none_taken in
-    let legal = subst (λ (limits : Bounds). IsLegal limits c.lines.opened.exchange.history) c.lines.invariant.limits c.end-in-Err-ReadFault.ensures.legal in
-    subst (λ (e : Ended g.row.D.Denot). Served g.D.Disk.drive c.args.opened.journal.disk first e before next) (sym c.end-in-Err-ReadFault.ensures.value)
-    (serving-end g.D.Disk.drive g.D.Disk.is_drive c.args.opened.journal.disk first ReadFault c.lines.lines c.lines.opened.exchange.history c.lines.desk.reader c.lines.opened.journal before now (left c.next.new.source)
-    s c.lines.invariant.storing (held-first g.D.Disk.drive g.D.Disk.is_drive first c.args.opened.journal c.requires.stored) legal read (λ whole. whole))
+    let read = serving-whole first c.lines.lines c.next.new.self.taken c.lines.house.history c.lines.desk.reader before now (left c.next.new.source) s c.in-Err-ReadFault.ensures.taken c.in-Err-ReadFault.ensures.none_taken in
+    let legal = subst (λ (limits : Bounds). IsLegal limits c.lines.house.history) c.lines.invariant.limits c.end-in-Err-ReadFault.ensures.legal in
+    subst (λ (e : Ended g.row.D.Denot). Served g.D.Disk.drive c.args.journal.disk first e before next) (sym c.end-in-Err-ReadFault.ensures.value)
+    (serving-end g.D.Disk.drive g.D.Disk.is_drive c.args.journal.disk first ReadFault c.lines.lines c.lines.house.history c.lines.desk.reader c.lines.journal before now (left c.next.new.source)
+    s c.lines.invariant.storing (held-first g.D.Disk.drive g.D.Disk.is_drive first c.args.journal c.requires.stored) legal read (λ whole. whole))
 
 pub returns-in-Err-InputLimit-clause-served : goal.returns-in-Err-InputLimit-clause-served
 returns-in-Err-InputLimit-clause-served g c =
@@ -85,13 +73,13 @@ returns-in-Err-InputLimit-clause-served g c =
     let before = outside (left c.args.source.now) (g.W.Sink.held c.args.sink.now) (g.C.Clock.may_have_told c.args.clock.now) in
     let now = outside (left c.lines.source) (g.W.Sink.held c.lines.sink) (g.C.Clock.may_have_told c.lines.clock) in
     let next = outside (left c.next.new.source) (g.W.Sink.held c.lines.sink) (g.C.Clock.may_have_told c.lines.clock) in
-    let first = c.args.opened.exchange.history in
+    let first = c.args.house.history in
     let s = c.lines.invariant.serving in
-    let read = serving-whole first c.lines.lines c.next.new.self.taken c.lines.opened.exchange.history c.lines.desk.reader before now (left c.next.new.source) s c.in-Err-InputLimit.ensures.taken c.in-Err-InputLimit.ensures.none_taken in
-    let legal = subst (λ (limits : Bounds). IsLegal limits c.lines.opened.exchange.history) c.lines.invariant.limits c.end-in-Err-InputLimit.ensures.legal in
-    subst (λ (e : Ended g.row.D.Denot). Served g.D.Disk.drive c.args.opened.journal.disk first e before next) (sym c.end-in-Err-InputLimit.ensures.value)
-    (serving-end g.D.Disk.drive g.D.Disk.is_drive c.args.opened.journal.disk first InputLimit c.lines.lines c.lines.opened.exchange.history c.lines.desk.reader c.lines.opened.journal before now (left c.next.new.source)
-    s c.lines.invariant.storing (held-first g.D.Disk.drive g.D.Disk.is_drive first c.args.opened.journal c.requires.stored) legal read (λ whole. whole))
+    let read = serving-whole first c.lines.lines c.next.new.self.taken c.lines.house.history c.lines.desk.reader before now (left c.next.new.source) s c.in-Err-InputLimit.ensures.taken c.in-Err-InputLimit.ensures.none_taken in
+    let legal = subst (λ (limits : Bounds). IsLegal limits c.lines.house.history) c.lines.invariant.limits c.end-in-Err-InputLimit.ensures.legal in
+    subst (λ (e : Ended g.row.D.Denot). Served g.D.Disk.drive c.args.journal.disk first e before next) (sym c.end-in-Err-InputLimit.ensures.value)
+    (serving-end g.D.Disk.drive g.D.Disk.is_drive c.args.journal.disk first InputLimit c.lines.lines c.lines.house.history c.lines.desk.reader c.lines.journal before now (left c.next.new.source)
+    s c.lines.invariant.storing (held-first g.D.Disk.drive g.D.Disk.is_drive first c.args.journal c.requires.stored) legal read (λ whole. whole))
 
 pub returns-in-Err-clause-served : goal.returns-in-Err-clause-served
 returns-in-Err-clause-served g c =
@@ -99,9 +87,9 @@ returns-in-Err-clause-served g c =
     let before = outside (left c.args.source.now) (g.W.Sink.held c.args.sink.now) (g.C.Clock.may_have_told c.args.clock.now) in
     let now = outside (left c.lines.source) (g.W.Sink.held c.lines.sink) (g.C.Clock.may_have_told c.lines.clock) in
     let next = outside (left c.next.new.source) (g.W.Sink.held c.lines.sink) (g.C.Clock.may_have_told c.now-now.new.self) in
-    let first = c.args.opened.exchange.history in
-    let history = c.lines.opened.exchange.history in
-    let after = c.answer_line-reply.new.exchange.history in
+    let first = c.args.house.history in
+    let history = c.lines.house.history in
+    let after = c.answer_line-reply.new.house.history in
     let turn_of : List ℕ → Turn = λ text. record { line = heard c.in-Ok.line text; moment = c.now-now.result; reply = c.answer_line-reply.result } in
     let turn = turn_of c.next.new.self.text in
     let is : IsTurn history after turn c.lines.desk.reader c.next.new.self now next = record {
@@ -111,11 +99,11 @@ returns-in-Err-clause-served g c =
       answered = line-answered _ _ history after turn turn_of _ _ c.lines.invariant.limits c.text.ensures refl c.answer_line-reply.ensures.answered;
     } in
     let legal = subst (λ (limits : Bounds). IsLegal limits after) (c.answer_line-reply.ensures.limits ∙ c.lines.invariant.limits) c.end-in-Err.ensures.legal in
-    subst (λ (e : Ended g.row.D.Denot). Served g.D.Disk.drive c.args.opened.journal.disk first e before next) (sym c.end-in-Err.ensures.value)
-    (serving-lost g.D.Disk.drive g.D.Disk.is_drive c.args.opened.journal.disk first c.lines.lines history after turn c.lines.desk.reader c.next.new.self c.lines.opened.journal c.store_new.new.journal before now next
-    c.lines.invariant.serving c.lines.invariant.storing (held-first g.D.Disk.drive g.D.Disk.is_drive first c.args.opened.journal c.requires.stored) legal is refl
-    (λ stored image there. c.in-Err.ensures.image history image c.answer_line-reply.ensures.step stored there)
-    (λ stored moment image early there. c.in-Err.ensures.since history moment image c.answer_line-reply.ensures.step stored early there)
+    subst (λ (e : Ended g.row.D.Denot). Served g.D.Disk.drive c.args.journal.disk first e before next) (sym c.end-in-Err.ensures.value)
+    (serving-lost g.D.Disk.drive g.D.Disk.is_drive c.args.journal.disk first c.lines.lines history after turn c.lines.desk.reader c.next.new.self c.lines.journal c.store_new.new.journal before now next
+    c.lines.invariant.serving c.lines.invariant.storing (held-first g.D.Disk.drive g.D.Disk.is_drive first c.args.journal c.requires.stored) legal is refl
+    (λ stored image there. c.in-Err.ensures.image history image c.answer_line-reply.ensures.front stored there)
+    (λ stored moment image early there. c.in-Err.ensures.since history moment image c.answer_line-reply.ensures.front stored early there)
     c.in-Err.ensures.goes_on)
 
 pub lines-preserved : goal.lines-preserved
@@ -125,9 +113,9 @@ lines-preserved g c =
     let before = outside (left c.args.source.now) (held c.args.sink.now) (g.C.Clock.may_have_told c.args.clock.now) in
     let now = outside (left c.lines.source) (held c.lines.sink) (g.C.Clock.may_have_told c.lines.clock) in
     let next = outside (left c.next.new.source) (held c.write_all.new.sink) (g.C.Clock.may_have_told c.now-now.new.self) in
-    let first = c.args.opened.exchange.history in
-    let history = c.lines.opened.exchange.history in
-    let after = c.answer_line-reply.new.exchange.history in
+    let first = c.args.house.history in
+    let history = c.lines.house.history in
+    let after = c.answer_line-reply.new.house.history in
     let turn_of : List ℕ → Turn = λ text. record { line = heard c.in-Ok.line text; moment = c.now-now.result; reply = c.answer_line-reply.result } in
     let turn = turn_of c.next.new.self.text in
     let is : IsTurn history after turn c.lines.desk.reader c.next.new.self now next = record {
@@ -139,9 +127,9 @@ lines-preserved g c =
     let written = subst (λ (text : List ℕ). Appends (held c.lines.sink) (held c.write_all.new.sink) text) (c.as_slice.ensures ∙ c.spell.ensures) c.in-Ok-write_all.ensures.ok in
     record {
       serving = serving-step first c.lines.lines history after turn c.lines.desk.reader c.next.new.self before now next c.lines.invariant.serving is written;
-      storing = storing-step g.D.Disk.drive c.args.opened.journal.disk first history after c.lines.opened.journal c.store_new.new.journal c.lines.invariant.storing c.answer_line-reply.ensures.step
-          (λ stored. c.in-Ok-store_new.ensures.ok history c.answer_line-reply.ensures.step stored)
-          (λ stored moment image early there. c.in-Ok-store_new.ensures.since history moment image c.answer_line-reply.ensures.step stored early there)
+      storing = storing-more g.D.Disk.drive c.args.journal.disk first history after c.lines.journal c.store_new.new.journal c.lines.invariant.storing c.answer_line-reply.ensures.front
+          (λ stored. c.in-Ok-store_new.ensures.ok history c.answer_line-reply.ensures.front stored)
+          (λ stored moment image early there. c.in-Ok-store_new.ensures.since history moment image c.answer_line-reply.ensures.front stored early there)
           c.in-Ok-store_new.ensures.goes_on;
       sound = c.in-Ok-store_new.ensures.sound;
       count = c.in-Ok-store_new.ensures.count;
@@ -160,9 +148,9 @@ returns-in-Err-write_all-clause-served g c =
     let before = outside (left c.args.source.now) (held c.args.sink.now) (g.C.Clock.may_have_told c.args.clock.now) in
     let now = outside (left c.lines.source) (held c.lines.sink) (g.C.Clock.may_have_told c.lines.clock) in
     let next = outside (left c.next.new.source) (held c.write_all.new.sink) (g.C.Clock.may_have_told c.now-now.new.self) in
-    let first = c.args.opened.exchange.history in
-    let history = c.lines.opened.exchange.history in
-    let after = c.answer_line-reply.new.exchange.history in
+    let first = c.args.house.history in
+    let history = c.lines.house.history in
+    let after = c.answer_line-reply.new.house.history in
     let turn_of : List ℕ → Turn = λ text. record { line = heard c.in-Ok.line text; moment = c.now-now.result; reply = c.answer_line-reply.result } in
     let turn = turn_of c.next.new.self.text in
     let is : IsTurn history after turn c.lines.desk.reader c.next.new.self now next = record {
@@ -173,14 +161,14 @@ returns-in-Err-write_all-clause-served g c =
     } in
     let legal = subst (λ (limits : Bounds). IsLegal limits after) (c.answer_line-reply.ensures.limits ∙ c.lines.invariant.limits) c.end-in-Err-write_all.ensures.legal in
     let front = subst (λ (text : List ℕ). AppendsFront (held c.lines.sink) (held c.write_all.new.sink) text) (c.as_slice.ensures ∙ c.spell.ensures) c.in-Err-write_all.ensures.err in
-    subst (λ (e : Ended g.row.D.Denot). Served g.D.Disk.drive c.args.opened.journal.disk first e before next) (sym c.end-in-Err-write_all.ensures.value)
-    (serving-cut g.D.Disk.drive g.D.Disk.is_drive c.args.opened.journal.disk first c.lines.lines history after turn c.lines.desk.reader c.next.new.self c.store_new.new.journal before now next
+    subst (λ (e : Ended g.row.D.Denot). Served g.D.Disk.drive c.args.journal.disk first e before next) (sym c.end-in-Err-write_all.ensures.value)
+    (serving-cut g.D.Disk.drive g.D.Disk.is_drive c.args.journal.disk first c.lines.lines history after turn c.lines.desk.reader c.next.new.self c.store_new.new.journal before now next
     c.lines.invariant.serving
-    (storing-step g.D.Disk.drive c.args.opened.journal.disk first history after c.lines.opened.journal c.store_new.new.journal c.lines.invariant.storing c.answer_line-reply.ensures.step
-    (λ stored. c.in-Ok-store_new.ensures.ok history c.answer_line-reply.ensures.step stored)
-    (λ stored moment image early there. c.in-Ok-store_new.ensures.since history moment image c.answer_line-reply.ensures.step stored early there)
+    (storing-more g.D.Disk.drive c.args.journal.disk first history after c.lines.journal c.store_new.new.journal c.lines.invariant.storing c.answer_line-reply.ensures.front
+    (λ stored. c.in-Ok-store_new.ensures.ok history c.answer_line-reply.ensures.front stored)
+    (λ stored moment image early there. c.in-Ok-store_new.ensures.since history moment image c.answer_line-reply.ensures.front stored early there)
     c.in-Ok-store_new.ensures.goes_on)
-    (held-first g.D.Disk.drive g.D.Disk.is_drive first c.args.opened.journal c.requires.stored) legal is front)
+    (held-first g.D.Disk.drive g.D.Disk.is_drive first c.args.journal c.requires.stored) legal is front)
 
 pub returns-in-Err-InputLimit-clause-input_limit : goal.returns-in-Err-InputLimit-clause-input_limit
 returns-in-Err-InputLimit-clause-input_limit g c = λ same.
@@ -190,7 +178,7 @@ returns-in-Err-InputLimit-clause-input_limit g c = λ same.
     let told = c.in-Err-InputLimit.ensures in
     let full = told.input_limit (ap Err c.in-Err-InputLimit.field-0-is) in
     IfTold-weaker (left c.args.source.now) (left c.next.new.source) _ _ (λ input rest whole. omega (arith, whole, full, told.limit, c.lines.invariant.limit))
-    (serving-taken c.args.opened.exchange.history c.lines.lines c.next.new.self.taken c.lines.opened.exchange.history c.lines.desk.reader before now (left c.next.new.source) c.lines.invariant.serving told.taken)
+    (serving-taken c.args.house.history c.lines.lines c.next.new.self.taken c.lines.house.history c.lines.desk.reader before now (left c.next.new.source) c.lines.invariant.serving told.taken)
 
 pub returns-in-Err-ReadFault-clause-below_limit : goal.returns-in-Err-ReadFault-clause-below_limit
 returns-in-Err-ReadFault-clause-below_limit g c = λ same.
@@ -200,4 +188,4 @@ returns-in-Err-ReadFault-clause-below_limit g c = λ same.
     let told = c.in-Err-ReadFault.ensures in
     let less = (told.read_fault (ap Err c.in-Err-ReadFault.field-0-is)).1 in
     IfTold-weaker (left c.args.source.now) (left c.next.new.source) _ _ (λ input rest whole. omega (arith, whole, less, told.limit, c.lines.invariant.limit))
-    (serving-taken c.args.opened.exchange.history c.lines.lines c.next.new.self.taken c.lines.opened.exchange.history c.lines.desk.reader before now (left c.next.new.source) c.lines.invariant.serving told.taken)
+    (serving-taken c.args.house.history c.lines.lines c.next.new.self.taken c.lines.house.history c.lines.desk.reader before now (left c.next.new.source) c.lines.invariant.serving told.taken)

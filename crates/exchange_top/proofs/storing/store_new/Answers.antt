@@ -1,37 +1,65 @@
-use Rattle.std.proofs.Common.{◌≡◌, ◌⊎◌, ◌-◌, ◌<◌, ◌≤◌, List, length, get_or, sym, subst, arith}
-use Rattle.std.proofs.lemmas.Result.{on_ok_weaker}
-use Rattle.command_words.specs.declared.act.Act.{Act}
-use Rattle.exchange_top.specs.Holds.{Holds, HasStored}
-use Rattle.exchange_top.proofs.Stores.{step-act, step-none, stored-count}
+use Rattle.std.proofs.Common.{◌≡◌, length, take, ◌∙◌, ap, inl, arith}
+use Rattle.settle_core.specs.Exchange.{ExchangeView}
+use Rattle.exchange_top.proofs.Stores.{front-holds, front-same, front-stored, since-front, stored-count, stored-holds, goes_on-same, goes_on-trans}
 use Rattle.exchange_top.proofs.storing.store_new.Goals as goal
 
-pub returns-then-acts-count-clause-ok : goal.returns-then-acts-count-clause-ok
-returns-then-acts-count-clause-ok g c =
-    λ before step stored.
-    let few : length c.args.exchange.now.history ≤ c.args.journal.now.count = subst (λ (acts : List Act). length acts ≤ c.args.journal.now.count) c.history-acts.ensures.value (omega (arith, c.if-acts-count.true, c.count.ensures)) in
-    let same = step-none before c.args.exchange.now.history c.args.journal.now.count step (stored-count g.D.Disk.drive before c.args.journal.now stored) few in
-    subst (λ (history : List Act). HasStored g.D.Disk.drive history c.args.journal.now) (sym same) stored
+pub batches-init : goal.batches-init
+batches-init g c = record {
+  stored = λ before front kept. front-stored g.D.Disk.drive before c.args.house.now.history c.args.journal.now front kept;
+  since = λ before moment image front kept early now. inl now;
+  at_least = omega arith;
+  within = c.requires.at_least;
+  sound = c.requires.sound;
+  never_falls = omega arith;
+  goes_on = goes_on-same (g.D.Disk.drive c.args.journal.now.disk);
+}
 
-pub returns-clause-ok : goal.returns-clause-ok
-returns-clause-ok g c =
-    λ before step stored.
-    let last = subst (λ (acts : List Act). c.in-Some.act.now ≡ get_or acts (length acts - 1) c.in-Some.act.now) c.history-acts.ensures.value c.in-Some.ensures.item.1 in
-    let less : c.args.journal.now.count < length c.args.exchange.now.history = subst (λ (acts : List Act). c.args.journal.now.count < length acts) c.history-acts.ensures.value (omega (arith, c.if-acts-count.false, c.count.ensures)) in
-    let more = step-act before c.args.exchange.now.history c.in-Some.act.now c.args.journal.now.count step (stored-count g.D.Disk.drive before c.args.journal.now stored) less last in
-    on_ok_weaker c.store.result (λ kept. subst (λ (history : List Act). HasStored g.D.Disk.drive history c.store.new.journal) (sym more) kept) (c.store.ensures.ok before stored)
+pub batches-preserved : goal.batches-preserved
+batches-preserved g c =
+    let drive = g.D.Disk.drive in
+    let history = c.args.house.now.history in
+    let was = c.batches.invariant in
+    let same : c.history-acts.result.now ≡ history = c.history-acts.ensures.value ∙ ap (λ (s : ExchangeView). s.history) c.exchange.ensures in
+    let told = rw same at c.in_ok-store_some.ensures in
+    record {
+      stored = λ before front kept. told.ok (was.stored before front kept);
+      since = λ before moment image front kept early now.
+          since-front (length before) c.batches.journal.count history history image (front-same history) (omega (arith, was.at_least, stored-count drive before c.args.journal.now kept))
+          (λ earlier. was.since before moment image front kept early earlier)
+          (told.since moment image (was.stored before front kept) (omega (arith, early, was.goes_on.moment)) now);
+      at_least = omega (arith, was.at_least, was.within, told.count);
+      within = omega (arith, told.count);
+      sound = told.sound;
+      never_falls = omega (arith, was.never_falls, told.never_falls);
+      goes_on = goes_on-trans (drive c.args.journal.now.disk) (drive c.batches.journal.disk) (drive c.store_some.new.journal.disk) was.goes_on told.goes_on;
+    }
+
+pub returns-in_err-store_some-clause-image : goal.returns-in_err-store_some-clause-image
+returns-in_err-store_some-clause-image g c = λ before image front kept now.
+    let history = c.args.house.now.history in
+    let was = c.batches.invariant in
+    let same : c.history-acts.result.now ≡ history = c.history-acts.ensures.value ∙ ap (λ (s : ExchangeView). s.history) c.exchange.ensures in
+    let told = rw same at c.in_err-store_some.ensures in
+    front-holds (length before) c.batches.journal.count history history image (front-same history) (omega (arith, was.at_least, stored-count g.D.Disk.drive before c.args.journal.now kept))
+    (told.image image (was.stored before front kept) now)
+
+pub returns-in_err-store_some-clause-since : goal.returns-in_err-store_some-clause-since
+returns-in_err-store_some-clause-since g c = λ before moment image front kept early now.
+    let history = c.args.house.now.history in
+    let was = c.batches.invariant in
+    let same : c.history-acts.result.now ≡ history = c.history-acts.ensures.value ∙ ap (λ (s : ExchangeView). s.history) c.exchange.ensures in
+    let told = rw same at c.in_err-store_some.ensures in
+    since-front (length before) c.batches.journal.count history history image (front-same history) (omega (arith, was.at_least, stored-count g.D.Disk.drive before c.args.journal.now kept))
+    (λ earlier. was.since before moment image front kept early earlier)
+    (told.since moment image (was.stored before front kept) (omega (arith, early, was.goes_on.moment)) now)
 
 pub returns-clause-image : goal.returns-clause-image
-returns-clause-image g c =
-    λ before image step stored now.
-    let last = subst (λ (acts : List Act). c.in-Some.act.now ≡ get_or acts (length acts - 1) c.in-Some.act.now) c.history-acts.ensures.value c.in-Some.ensures.item.1 in
-    let less : c.args.journal.now.count < length c.args.exchange.now.history = subst (λ (acts : List Act). c.args.journal.now.count < length acts) c.history-acts.ensures.value (omega (arith, c.if-acts-count.false, c.count.ensures)) in
-    let more = step-act before c.args.exchange.now.history c.in-Some.act.now c.args.journal.now.count step (stored-count g.D.Disk.drive before c.args.journal.now stored) less last in
-    subst (λ (history : List Act). Holds image before ⊎ Holds image history) (sym more) (c.store.ensures.image before image stored now)
-
-pub returns-clause-since : goal.returns-clause-since
-returns-clause-since g c =
-    λ before moment image step stored early since.
-    let last = subst (λ (acts : List Act). c.in-Some.act.now ≡ get_or acts (length acts - 1) c.in-Some.act.now) c.history-acts.ensures.value c.in-Some.ensures.item.1 in
-    let less : c.args.journal.now.count < length c.args.exchange.now.history = subst (λ (acts : List Act). c.args.journal.now.count < length acts) c.history-acts.ensures.value (omega (arith, c.if-acts-count.false, c.count.ensures)) in
-    let more = step-act before c.args.exchange.now.history c.in-Some.act.now c.args.journal.now.count step (stored-count g.D.Disk.drive before c.args.journal.now stored) less last in
-    subst (λ (history : List Act). (g.D.Disk.drive c.args.journal.now.disk).image_since moment image ⊎ (Holds image before ⊎ Holds image history)) (sym more) (c.store.ensures.since before moment image stored early since)
+returns-clause-image g c = λ before image front kept now.
+    let was = c.batches.invariant in
+    let stored = was.stored before front kept in
+    record {
+      acts = c.batches.journal.count;
+      held = stored-holds g.D.Disk.drive (take c.batches.journal.count c.args.house.now.history) c.batches.journal image stored now;
+      at_least = omega (arith, was.at_least, stored-count g.D.Disk.drive before c.args.journal.now kept);
+      within = was.within;
+    }
