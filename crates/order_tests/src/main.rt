@@ -1,7 +1,9 @@
-//! Tests of markets and orders within small limits, over the exchange itself. It has nothing else: `rt test` runs
-//! them.
+//! Tests of markets, orders, matches and crossings within small limits, over the exchange itself and a house. It has nothing
+//! else: `rt test` runs them.
 #![tactic(auto)]
 
+#[cfg(test)]
+mod crossings;
 #[cfg(test)]
 mod orders;
 
