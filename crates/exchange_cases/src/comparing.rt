@@ -181,7 +181,8 @@ fn rested(alloc: Global, output: &[u8], lines: u64) -> Result<u64, AllocError> {
     let text = String::from_utf8_lossy(alloc, output)?;
     let mut most = 0u64;
     for reply in text.as_str().lines().take(lines as usize) {
-        let acts = member(reply, "\"lsn\":").map_or(0, |lsn| lsn.saturating_add(1));
+        let made = member(reply, "\"acts\":").unwrap_or(1);
+        let acts = member(reply, "\"lsn\":").map_or(0, |lsn| lsn.saturating_add(made));
         most = most.max(acts).max(member(reply, "\"rests\":").unwrap_or(0));
     }
     Ok(most)
