@@ -53,4 +53,6 @@ fn main(rt: HostRuntime) -> ExitCode {
 }
 
 #[cfg(test)]
+mod errors;
+#[cfg(test)]
 mod tests;

@@ -1,11 +1,9 @@
 //! Tests of what no line of a client reaches, over the exchange itself. It has nothing else: `rt test` runs them.
 //!
 //! What lines reach is told by the cases of `exchange_cases`. Here small limits are reached, which no word of the program
-//! sets, and the texts of errors are compared that the program doesn't print.
+//! sets.
 #![tactic(auto)]
 
-#[cfg(test)]
-mod errors;
 #[cfg(test)]
 mod exchanges;
 

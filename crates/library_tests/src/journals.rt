@@ -1,8 +1,8 @@
-//! Batches of many payloads, more of them than a reader holds at once.
+//! Batches of many payloads, more of them than a reader holds at once, and the texts of errors.
 
 use crate::memory::disk;
 use journal_disk::MemoryDisk;
-use journal_store::{Batch, Journal, MAX_PAYLOADS, Next, Reader};
+use journal_store::{Batch, BeginFault, Journal, MAX_PAYLOADS, Next, NextFault, Reader};
 use std::alloc::Global;
 use std::test::Fail;
 
@@ -63,5 +63,26 @@ fn more_than_a_window(rt: HostRuntime) -> Result<(), Fail> {
             "payload {turn}"
         );
     }
+    Ok(())
+}
+
+#[test]
+fn faults_of_opening_have_texts(rt: HostRuntime) -> Result<(), Fail> {
+    let rows = [
+        (BeginFault::Disk, "the disk failed"),
+        (
+            BeginFault::NotJournal,
+            "the disk has something other than a journal",
+        ),
+        (BeginFault::Memory, "out of memory"),
+    ];
+    for (fault, text) in rows {
+        assert_eq!(rt; format!(in rt.alloc(); "{fault}")?.as_str(), text);
+    }
+    let fault = NextFault::Cut { at: 73 };
+    assert_eq!(rt;
+        format!(in rt.alloc(); "{fault}")?.as_str(),
+        "the journal breaks off at byte 73"
+    );
     Ok(())
 }

@@ -1,29 +1,7 @@
-//! The texts of error types, which the program doesn't print.
+//! The texts of an error type that the program doesn't print: it says by a line of its own why a journal isn't opened.
 
 use exchange_top::OpenFault;
-use journal_store::{BeginFault, NextFault};
 use std::test::Fail;
-
-#[test]
-fn faults_of_opening_have_texts(rt: HostRuntime) -> Result<(), Fail> {
-    let rows = [
-        (BeginFault::Disk, "the disk failed"),
-        (
-            BeginFault::NotJournal,
-            "the disk has something other than a journal",
-        ),
-        (BeginFault::Memory, "out of memory"),
-    ];
-    for (fault, text) in rows {
-        assert_eq!(rt; format!(in rt.alloc(); "{fault}")?.as_str(), text);
-    }
-    let fault = NextFault::Cut { at: 73 };
-    assert_eq!(rt;
-        format!(in rt.alloc(); "{fault}")?.as_str(),
-        "the journal breaks off at byte 73"
-    );
-    Ok(())
-}
 
 #[test]
 fn faults_of_recovery_have_texts(rt: HostRuntime) -> Result<(), Fail> {
