@@ -1,6 +1,7 @@
 //! A run of a case: the outside that it is given, and what it has to come to.
 
 use crate::fault::CaseFault;
+use settle_core::Limits;
 use std::alloc::Global;
 use std::fmt;
 
@@ -78,6 +79,13 @@ pub struct Number {
     pub value: u64,
 }
 
+/// Limits of a block's own, and the line of the case that says them.
+#[derive(Clone, Copy, Debug)]
+pub struct Limited {
+    pub line: usize,
+    pub limits: Limits,
+}
+
 /// What the disk has to have at the end.
 #[derive(Debug, Drop)]
 pub enum Left {
@@ -136,6 +144,8 @@ pub struct Block {
     pub repeat: Repeat,
     /// Whether what it leaves is kept for later blocks.
     pub keeps: bool,
+    /// The limits within which a house answers its lines, in place of a run.
+    pub limited: Option<Limited>,
     pub wanted: Wanted,
 }
 
@@ -165,6 +175,7 @@ impl Block {
             failing: Vec::new(alloc),
             repeat: Repeat::ONCE,
             keeps: false,
+            limited: None,
             wanted,
         })
     }

@@ -35,6 +35,18 @@ pub fn compare(
     }
 }
 
+/// Compares all that a case says of answers within limits of its own.
+pub fn compare_answers(
+    alloc: Global,
+    block: &Block,
+    output: &[u8],
+    acts: u64,
+) -> Result<(), CaseFault> {
+    let outside = Outside::CALM;
+    compare_output(alloc, block, &outside, output)?;
+    compare_number(alloc, &outside, "acts", block.wanted.acts, acts)
+}
+
 /// A difference between what a line of the case wants and what a run came to.
 fn differs(alloc: Global, outside: &Outside, line: usize, wanted: &str, got: &str) -> CaseFault {
     match format!(in alloc; "{got}{outside}") {

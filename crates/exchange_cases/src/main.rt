@@ -14,6 +14,7 @@ mod reading;
 mod running;
 mod sheet;
 mod spelling;
+mod within;
 
 use folder::check_folder;
 use std::process::ExitCode;

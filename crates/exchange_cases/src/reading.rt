@@ -1,8 +1,9 @@
 //! The words of a case.
 
-use crate::block::{Block, Failing, Left, Number, Piece, Repeat};
+use crate::block::{Block, Failing, Left, Limited, Number, Piece, Repeat};
 use crate::fault::{CaseFault, found};
 use crate::spelling::{Line, bytes, first_word, hex_bytes, number, put, range, turned};
+use settle_core::Limits;
 use std::alloc::Global;
 
 /// Takes a line of a case into its block.
@@ -80,7 +81,7 @@ fn want_line(alloc: Global, block: &mut Block, line: usize, text: &str) -> Resul
     Ok(())
 }
 
-/// Takes a line on the words, the clock, the source, the sink or what fails. Gives whether it is one.
+/// Takes a line on the words, the clock, the source, the sink, what fails or the limits. Gives whether it is one.
 fn read_outside(alloc: Global, block: &mut Block, line: Line<'_>) -> Result<bool, CaseFault> {
     match line.word {
         "words" => {
@@ -93,6 +94,7 @@ fn read_outside(alloc: Global, block: &mut Block, line: Line<'_>) -> Result<bool
         "reads" => read_sizes(alloc, &mut block.reads, line)?,
         "writes" => read_sizes(alloc, &mut block.writes, line)?,
         "fails" => read_failing(alloc, block, line)?,
+        "limits" => block.limited = Some(read_limits(alloc, line)?),
         _ => return Ok(false),
     }
     Ok(true)
@@ -133,6 +135,40 @@ fn failing(object: &str, number: u64) -> Option<Failing> {
         _ => return None,
     }
     Some(failing)
+}
+
+/// Limits of its own: how many conditions, events, open orders of a market, balances and acts there may be.
+fn read_limits(alloc: Global, line: Line<'_>) -> Result<Limited, CaseFault> {
+    let mut numbers = Vec::new(alloc);
+    for word in line.rest.split_whitespace() {
+        numbers.push(number(alloc, line.number, word)?)?;
+    }
+    match limits(&numbers) {
+        Some(limits) => Ok(Limited {
+            line: line.number,
+            limits,
+        }),
+        None => Err(found(
+            alloc,
+            line.number,
+            "five limits, each from 1 to the program's",
+            line.rest,
+        )),
+    }
+}
+
+/// The limits that these five numbers are.
+fn limits(numbers: &[u64]) -> Option<Limits> {
+    match numbers {
+        [conditions, events, orders, balances, acts] => Limits::small(
+            u16::try_from(*conditions).ok()?,
+            u16::try_from(*events).ok()?,
+            u32::try_from(*orders).ok()?,
+            u32::try_from(*balances).ok()?,
+            u32::try_from(*acts).ok()?,
+        ),
+        _ => None,
+    }
 }
 
 /// Takes a line on what the disk has at the beginning. Gives whether it is one.

@@ -3,6 +3,7 @@
 use crate::block::{Block, Failing, Outside, PIECE};
 use crate::comparing::compare;
 use crate::fault::CaseFault;
+use crate::within::run_within;
 use command_words::ListClock;
 use exchange_top::{Ended, recover, run};
 use journal_disk::MemoryDisk;
@@ -11,9 +12,14 @@ use outside_faults::FailingCalls;
 use settle_core::Limits;
 use std::alloc::{AllocError, Global};
 
-/// Runs a block in each of its outsides, and compares what each run comes to. Gives what the last left on its disk,
-/// and counts the runs.
+/// Runs a block within its limits, or in each of its outsides, and compares what each run comes to. Gives what the last
+/// left on its disk, and counts the runs.
 pub fn run_block(alloc: Global, block: &Block, runs: &mut u64) -> Result<Vec<u8>, CaseFault> {
+    if let Some(limited) = block.limited {
+        *runs = runs.saturating_add(1);
+        run_within(alloc, block, limited)?;
+        return Ok(Vec::new(alloc));
+    }
     let calm = [PIECE];
     let reads = if block.reads.is_empty() {
         calm.as_slice()
