@@ -1,7 +1,6 @@
 //! Tests of what no line of a client reaches, over the exchange itself. It has nothing else: `rt test` runs them.
 //!
-//! What lines reach is told by the cases of `exchange_cases`. Here small limits are reached, which no word of the program
-//! sets.
+//! What lines reach is told by the cases of `exchange_cases`, within small limits too.
 #![tactic(auto)]
 
 #[cfg(test)]

@@ -1,8 +1,8 @@
 //! Tests of what no line of a client reaches, over the libraries below the exchange. It has nothing else: `rt test` runs
 //! them.
 //!
-//! What lines reach is told by the cases of `exchange_cases`. Here public calls that no request makes yet succeed once,
-//! and the images that a disk lists and the texts of all replies are compared with examples that were written by hand.
+//! What lines reach is told by the cases of `exchange_cases`. Here public calls that no request makes succeed once,
+//! and the images that a disk lists and the texts that no line comes to are compared with examples that were written by hand.
 #![tactic(auto)]
 
 #[cfg(test)]
@@ -22,11 +22,7 @@ mod memory;
 #[cfg(test)]
 mod orders;
 #[cfg(test)]
-mod plans;
-#[cfg(test)]
-mod refusals;
-#[cfg(test)]
-mod replies;
+mod texts;
 #[cfg(test)]
 mod trial;
 
