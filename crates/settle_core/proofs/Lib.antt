@@ -26,6 +26,7 @@ mod Proposed
 mod Reported
 mod Settled
 mod Staging
+mod Stops
 pub mod Trading
 mod Verdicts
 mod Zeros

@@ -1,12 +1,14 @@
 -- What is proposed on the snapshot of a legal history is refused for none of its orders, nor for what goes through the exchange
--- or what its taker gets.
-use Rattle.std.proofs.Common.{◌≡◌, ◌≢◌, ℕ, suc, ◌+◌, ◌-◌, ◌<◌, ◌≤◌, Bool, true, false, cond, List, [], ◌∷◌, ◌++◌, Option, Some, None, All, refl, sym, ap, subst, ◌∙◌, arith}
-use Rattle.std.specs.Prelude.{◌==◌, ◌&&◌, ◌||◌, AllPairs, not, nat_lt, is_none, is_some, map, option_map, slice_get, slice_index_or, sum_by}
+-- or what its taker gets; nor is the match with the first makers alone.
+use Rattle.std.proofs.Common.{◌≡◌, ◌≢◌, ℕ, suc, ◌+◌, ◌-◌, ◌<◌, ◌≤◌, Bool, true, false, cond, List, [], ◌∷◌, ◌++◌, Option, Some, None, All, length, take, refl, sym, ap, subst, ◌∙◌, arith}
+use Rattle.std.specs.Prelude.{◌==◌, ◌&&◌, ◌||◌, AllPairs, sum, not, nat_lt, is_none, is_some, map, option_map, slice_get, slice_index_or, sum_by}
 use Rattle.std.specs.List.{list_any}
 use Rattle.std.proofs.lemmas.Bool.{and_parts, eqb-true}
 use Rattle.std.proofs.lemmas.Bool.Decides.{nat_tests}
-use Rattle.std.proofs.lemmas.List.Elements.{All-append, All-cons, All-contains, All-head, All-nil, All-tail, All-weaker}
+use Rattle.std.proofs.lemmas.List.{get_or-take, length-take, take-map, take_all}
+use Rattle.std.proofs.lemmas.List.Elements.{All-append, All-cons, All-contains, All-head, All-nil, All-tail, All-take, All-weaker}
 use Rattle.std.proofs.lemmas.List.Folds.{list_any-append}
+use Rattle.std.proofs.lemmas.List.Sums.{sum-map, sum_by-take-le}
 use Rattle.book_propose.proofs.Proposed.{proposed as is-proposal}
 use Rattle.book_propose.specs.Candidates.{crosses_by, fit_with, is_candidate, is_crossing, is_crossing_exactly, kind_with as kind_of_pair}
 use Rattle.book_propose.specs.Proposals.{Filling, IsFilling, IsProposal, makers_for, proposal}
@@ -137,7 +139,7 @@ true-not : (b : Bool) → not b ≡ true → b ≡ false
 true-not true e = cc
 true-not false e = refl
 
-shut-none : (nonces : ℕ → ℕ) (now place fill : ℕ) (s : OrderState) → is_live nonces now s ≡ true → shut place fill s ≡ None
+pub shut-none : (nonces : ℕ → ℕ) (now place fill : ℕ) (s : OrderState) → is_live nonces now s ≡ true → shut place fill s ≡ None
 shut-none nonces now place fill s live =
     let parts = and_parts s.is_open (not (has_expired s.placed.expires now) && (s.placed.nonce == nonces s.placed.account)) live in
     ap (λ b. where_ (not b) (NotOpen s.filled place)) parts.0
@@ -211,9 +213,19 @@ unrepeated earlier place (f ∷ fs) new apart =
     let rest = unrepeated (earlier ++ (f.maker.order, f.fitted.fill) ∷ []) (suc place) fs later (λ i j d below inside. apart (suc i) (suc j) d (omega (arith, below)) (omega (arith, inside))) in
     ap (λ b. or_else (where_ b (RepeatedOrder place)) (repeated_from (earlier ++ (f.maker.order, f.fitted.fill) ∷ []) (suc place) (named fs))) here ∙ rest
 
+-- of some of them, the first ones, too
+apart-take : (count : ℕ) (fs : List Filling) → AllPairs (λ f g. f.maker.order ≢ g.maker.order) fs → AllPairs (λ f g. f.maker.order ≢ g.maker.order) (take count fs)
+apart-take count fs apart = λ i j d below inside.
+    let few : length (take count fs) ≤ count = omega (arith, length-take count fs) in
+    let fewer : length (take count fs) ≤ length fs = omega (arith, length-take count fs) in
+    let at_i = get_or-take count fs i d (omega (arith, below, inside, few)) in
+    let at_j = get_or-take count fs j d (omega (arith, inside, few)) in
+    subst (λ (f : Filling). f.maker.order ≢ (slice_index_or (take count fs) j d).maker.order) (sym at_i)
+    (subst (λ (g : Filling). (slice_index_or fs i d).maker.order ≢ g.maker.order) (sym at_j) (apart i j d below (omega (arith, inside, fewer))))
+
 -- ---- its parts
 
-placed-at : (history : List Act) (market now : ℕ) (o : Offer) (is : IsOffered history market now o) → slice_get (placed history) o.order ≡ Some is.state.placed
+pub placed-at : (history : List Act) (market now : ℕ) (o : Offer) (is : IsOffered history market now o) → slice_get (placed history) o.order ≡ Some is.state.placed
 placed-at history market now o is = sym (facts-placed history o.order) ∙ ap (option_map (λ (s : OrderState). s.placed)) is.at
 
 part-is : (history : List Act) (market now fill : ℕ) (o : Offer) (is : IsOffered history market now o) → IsPartOf o fill (part_of is.state.placed fill)
@@ -230,12 +242,12 @@ parts-are history market now (f ∷ fs) all =
 -- ---- the proposal
 
 -- a filling of an offer, with what the rules ask of it
-record IsNamed (history : List Act) (market now : ℕ) (taker : Offer) (f : Filling) : Type 0 where
+pub record IsNamed (history : List Act) (market now : ℕ) (taker : Offer) (f : Filling) : Type 0 where
   pub offered : IsOffered history market now f.maker
   pub candidate : is_candidate taker f.maker ≡ true
   pub within : f.fitted.fill ≤ f.maker.rest
 
-named-of : (history : List Act) (market now : ℕ) (taker : Offer) (f : Filling) → IsFilling (snapshot history market now) taker f → IsNamed history market now taker f
+pub named-of : (history : List Act) (market now : ℕ) (taker : Offer) (f : Filling) → IsFilling (snapshot history market now) taker f → IsNamed history market now taker f
 named-of history market now taker f is = record {
   offered = All-contains (IsOffered history market now) (snapshot history market now) f.maker (offered history market now) is.among;
   candidate = is.candidate;
@@ -245,18 +257,32 @@ named-of history market now taker f is = record {
 each-named : (history : List Act) (market now : ℕ) (taker : Offer) (fs : List Filling) (P : Filling → Type 0) → ((f : Filling) → IsNamed history market now taker f → P f) → All (IsNamed history market now taker) fs → All P fs
 each-named history market now taker fs P gives all = All-weaker (IsNamed history market now taker) P gives fs all
 
-module _ (limits : Bounds) (history : List Act) (market now : ℕ) (terms : MatchTerms) (legal : IsLegal limits history) (is : IsProposal (snapshot history market now) terms) where
+module _ (limits : Bounds) (history : List Act) (market now : ℕ) (terms : MatchTerms) (legal : IsLegal limits history) (is : IsProposal (snapshot history market now) terms) (count : ℕ) where
+  abbrev pub every : List Filling
+  every = makers_for (snapshot history market now) is.taker
+
   abbrev pub fs : List Filling
-  fs = makers_for (snapshot history market now) is.taker
+  fs = take count every
 
   abbrev pub fill : ℕ
   fill = sum_by (λ f. f.fitted.spent) fs
+
+  each : All (IsFilling (snapshot history market now) is.taker) fs
+  each = All-take (IsFilling (snapshot history market now) is.taker) count every is.each
+
+  within : fill ≤ is.taker.rest
+  within =
+      let less : fill ≤ sum_by (λ f. f.fitted.spent) every = sum_by-take-le (λ (f : Filling). f.fitted.spent) every count in
+      omega (arith, less, is.within)
+
+  apart : AllPairs (λ f g. f.maker.order ≢ g.maker.order) fs
+  apart = apart-take count every is.apart
 
   taken : IsOffered history market now is.taker
   taken = All-contains (IsOffered history market now) (snapshot history market now) is.taker (offered history market now) is.among
 
   all : All (IsNamed history market now is.taker) fs
-  all = All-weaker (IsFilling (snapshot history market now) is.taker) (IsNamed history market now is.taker) (named-of history market now is.taker) fs is.each
+  all = All-weaker (IsFilling (snapshot history market now) is.taker) (IsNamed history market now is.taker) (named-of history market now is.taker) fs each
 
   others : (f : Filling) → (n : IsNamed history market now is.taker f) → IsOther taken.state.placed n.offered.state.placed
   others f n = other taken.state.placed n.offered.state.placed is.taker f.maker taken.account taken.token taken.limit n.offered.account n.offered.token n.offered.limit n.candidate
@@ -276,7 +302,7 @@ module _ (limits : Bounds) (history : List Act) (market now : ℕ) (terms : Matc
       ∙ walk history (rule taken.state.placed) 1 fs (each-named history market now is.taker fs (λ f. (place : ℕ) → by_rule (rule taken.state.placed) place f.fitted.fill (order_state history f.maker.order) ≡ None) (λ f n place. passed history (rule taken.state.placed) place f.fitted.fill f.maker.order n.offered.state n.offered.at (of_maker f n place)) all)
 
   enough : (place : ℕ) → overfilled place fill taken.state ≡ None
-  enough place = left-none place fill taken.state (omega (arith, is.within, taken.rest))
+  enough place = left-none place fill taken.state (omega (arith, within, taken.rest))
 
   pub proposed-orders : first_some (match_refusals (order_state history) (nonce history) now is.taker.order fill (named fs)) ≡ None
   proposed-orders = nine
@@ -285,7 +311,7 @@ module _ (limits : Bounds) (history : List Act) (market now : ℕ) (terms : Matc
       (both (expired now) (λ place. expired-none (nonce history) now place fill taken.state taken.live) (λ f n place. expired-none (nonce history) now place f.fitted.fill n.offered.state n.offered.live))
       (both (outdated (nonce history)) (λ place. outdated-none (nonce history) now place fill taken.state taken.live) (λ f n place. outdated-none (nonce history) now place f.fitted.fill n.offered.state n.offered.live))
       (by_them own (λ f n place. own-none taken.state.placed place f.fitted.fill n.offered.state (others f n)))
-      (unrepeated [] 1 fs (λ i d inside. refl) is.apart)
+      (unrepeated [] 1 fs (λ i d inside. refl) apart)
       (by_them unpaired (λ f n place. unpaired-none taken.state.placed place f.fitted.fill n.offered.state (others f n) (n.offered.market_is ∙ sym taken.market_is)))
       (by_them uncrossed (λ f n place. uncrossed-none taken.state.placed place f.fitted.fill n.offered.state (others f n)))
       (both overfilled enough (λ f n place. left-none place f.fitted.fill n.offered.state (omega (arith, n.within, n.offered.rest))))
@@ -304,7 +330,7 @@ module _ (limits : Bounds) (history : List Act) (market now : ℕ) (terms : Matc
   filled = All-weaker (IsFilling (snapshot history market now) is.taker) (IsFilledOf is.taker) (λ f n.
       let named = named-of history market now is.taker f n in
       let some = amounts f.maker named.offered in
-      record { candidate = n.candidate; fits = (n.fits.0, n.fits.2); making = some.0; taking = some.1 }) fs is.each
+      record { candidate = n.candidate; fits = (n.fits.0, n.fits.2); making = some.0; taking = some.1 }) fs each
 
   parts : ArePartsOf fs (parts_in (placed history) (named fs))
   parts = parts-are history market now fs (each-named history market now is.taker fs (λ f. IsOffered history market now f.maker) (λ f n. n.offered) all)
@@ -321,17 +347,43 @@ module _ (limits : Bounds) (history : List Act) (market now : ℕ) (terms : Matc
 
 -- ---- the law
 
--- of terms that are those of a taker with its makers
-abbrev IsFine : List Act → ℕ → MatchTerms → Type 0
-IsFine history now terms =
-    (first_some (match_refusals (order_state history) (nonce history) now terms.taker terms.fill terms.makers) ≡ None)
-    × (short_in (slice_get (placed history) terms.taker) terms.fill (parts_in (placed history) terms.makers) ≡ None)
-    × (little_in (slice_get (placed history) terms.taker) terms.fill (parts_in (placed history) terms.makers) ≡ None)
+-- a match of a taker, filled by so much, with makers meets none of these refusals
+abbrev pub IsFine : List Act → ℕ → ℕ → ℕ → List (ℕ × ℕ) → Type 0
+IsFine history now taker fill makers =
+    (first_some (match_refusals (order_state history) (nonce history) now taker fill makers) ≡ None)
+    × (short_in (slice_get (placed history) taker) fill (parts_in (placed history) makers) ≡ None)
+    × (little_in (slice_get (placed history) taker) fill (parts_in (placed history) makers) ≡ None)
 
-fine : (limits : Bounds) (history : List Act) (market now : ℕ) (terms : MatchTerms) → IsLegal limits history → proposal (snapshot history market now) ≡ Some terms → IsFine history now terms
+abbrev pub spent_on : Filling → ℕ
+spent_on f = f.fitted.spent
+
+abbrev pub name_of : Filling → ℕ × ℕ
+name_of f = (f.maker.order, f.fitted.fill)
+
+front-fine : (limits : Bounds) (history : List Act) (market now : ℕ) (terms : MatchTerms) → IsLegal limits history → (is : IsProposal (snapshot history market now) terms) → (count : ℕ)
+    → let front = take count (makers_for (snapshot history market now) is.taker) in IsFine history now is.taker.order (sum_by spent_on front) (named front)
+front-fine limits history market now terms legal is count =
+    (proposed-orders limits history market now terms legal is count, proposed-flows limits history market now terms legal is count, proposed-proceeds limits history market now terms legal is count)
+
+-- with the first makers alone
+pub fine-front : (limits : Bounds) (history : List Act) (market now count : ℕ) (terms : MatchTerms) → IsLegal limits history → proposal (snapshot history market now) ≡ Some terms
+    → IsFine history now terms.taker (sum (take count terms.spent)) (take count terms.makers)
+fine-front limits history market now count terms legal proposed =
+    let is = is-proposal (snapshot history market now) terms (is-snapshot history market now) proposed in
+    let every = makers_for (snapshot history market now) is.taker in
+    let spent : sum (take count (map spent_on every)) ≡ sum_by spent_on (take count every) = ap sum (take-map spent_on count every) ∙ sum-map spent_on (take count every) in
+    let makers : take count (map name_of every) ≡ named (take count every) = take-map name_of count every in
+    subst (λ (t : MatchTerms). IsFine history now t.taker (sum (take count t.spent)) (take count t.makers)) (sym is.terms_are)
+    (subst (λ (filled : ℕ). IsFine history now is.taker.order filled (take count (map name_of every))) (sym spent)
+    (subst (IsFine history now is.taker.order (sum_by spent_on (take count every))) (sym makers) (front-fine limits history market now terms legal is count)))
+
+-- and with all of them
+pub fine : (limits : Bounds) (history : List Act) (market now : ℕ) (terms : MatchTerms) → IsLegal limits history → proposal (snapshot history market now) ≡ Some terms → IsFine history now terms.taker terms.fill terms.makers
 fine limits history market now terms legal proposed =
     let is = is-proposal (snapshot history market now) terms (is-snapshot history market now) proposed in
-    subst (IsFine history now) (sym is.terms_are) (proposed-orders limits history market now terms legal is, proposed-flows limits history market now terms legal is, proposed-proceeds limits history market now terms legal is)
+    let every = makers_for (snapshot history market now) is.taker in
+    subst (λ (t : MatchTerms). IsFine history now t.taker t.fill t.makers) (sym is.terms_are)
+    (subst (λ (fs : List Filling). IsFine history now is.taker.order (sum_by spent_on fs) (named fs)) (take_all (length every) every (omega arith)) (front-fine limits history market now terms legal is (length every)))
 
 pub fits-orders : (limits : Bounds) (history : List Act) (market now : ℕ) (terms : MatchTerms) → IsLegal limits history → proposal (snapshot history market now) ≡ Some terms
     → first_some (match_refusals (order_state history) (nonce history) now terms.taker terms.fill terms.makers) ≡ None

@@ -1,5 +1,5 @@
 -- A crossing of a market: the operator's matches and lapses at one moment, turn by turn. This project's own.
-use Rattle.std.specs.Prelude.{◌==◌, ◌-◌, ℕ, zero, suc, if◌then◌else◌, Bool, true, false, List, [], ◌∷◌, ◌++◌, take, sum, slice_index_or, Option, Some, None, option_map, Result, Ok, Err}
+use Rattle.std.specs.Prelude.{◌==◌, ◌-◌, ℕ, ⊤, zero, suc, if◌then◌else◌, Bool, true, false, List, [], ◌∷◌, ◌++◌, take, sum, slice_index_or, Option, Some, None, option_map, Result, Ok, Err}
 use Rattle.book_propose.specs.Proposals.{proposal}
 use Rattle.book_propose.specs.declared.terms.MatchTerms.{MatchTerms}
 use Rattle.command_words.specs.Refusal.{code_of}
@@ -7,7 +7,7 @@ use Rattle.command_words.specs.declared.act.Act.{Act}
 use Rattle.command_words.specs.declared.command.Command.{Command}
 use Rattle.command_words.specs.declared.command.Command.TheVariants.{Match, Lapse}
 use Rattle.command_words.specs.declared.refusal.Refusal.{Refusal}
-use Rattle.command_words.specs.declared.refusal.Refusal.TheVariants.{Unfunded}
+use Rattle.command_words.specs.declared.refusal.Refusal.TheVariants.{EntriesLimit, HistoryFull, SupplyLimit, Unfunded}
 use Rattle.condition_sets.specs.declared.names.TheConstants.{OPERATOR}
 use Rattle.settle_core.specs.Bounds.{Bounds}
 use Rattle.settle_core.specs.Snapshots.{snapshot}
@@ -41,6 +41,13 @@ chosen says terms (Some refusal) = Err refusal
 -- what is said of a command of the operator
 abbrev pub says_of : Bounds → List Act → ℕ → Command → Option Refusal
 says_of limits history now command = verdict (record { limits = limits; history = history; account = OPERATOR; command = command; moment = now })
+
+-- a refusal is for want of room: of a supply, of balances or of acts
+abbrev pub IsForRoom : Refusal → Type 0
+IsForRoom (SupplyLimit supply) = ⊤
+IsForRoom EntriesLimit = ⊤
+IsForRoom HistoryFull = ⊤
+IsForRoom refusal = ⊥
 
 -- a turn over a history: none where nothing is proposed
 abbrev pub turn : Bounds → List Act → ℕ → ℕ → Option (Result Command Refusal)

@@ -1,6 +1,6 @@
 //! Laws of the rules: sentences about every history and every command, each proved once.
 
-ghost use Rattle.std.specs.Prelude.{◌≡◌, ℕ, ◌≤◌, List, Option, Some, None, Contains, All, true, false};
+ghost use Rattle.std.specs.Prelude.{◌≡◌, ℕ, ◌≤◌, List, Option, Some, None, Err, Contains, All, true, false};
 ghost use Rattle.book_propose.specs.Proposals.{proposal};
 ghost use Rattle.book_propose.specs.declared.terms.MatchTerms.{MatchTerms};
 ghost use Rattle.command_words.specs.Command.{in_ranges};
@@ -18,6 +18,7 @@ ghost use Rattle.ledger_book.specs.Staging.{is_above_supply};
 ghost use Rattle.settle_core.specs.Book.{book, postings, postings_of};
 ghost use Rattle.settle_core.specs.Bounds.{Bounds, standard};
 ghost use Rattle.settle_core.specs.Coverage.{CanPay, outlook};
+ghost use Rattle.settle_core.specs.Crossings.{IsForRoom, turn};
 ghost use Rattle.settle_core.specs.Fairness.{IsFair};
 ghost use Rattle.settle_core.specs.Legal.{IsLegal};
 ghost use Rattle.settle_core.specs.OrderRules.{match_refusals};
@@ -74,6 +75,12 @@ pub fn proposal_fits()
         → short_by (placed history) (Match terms.taker terms.fill terms.makers) ≡ None }
     ensures proceeds { (limits : Bounds) (history : List Act) (market now : ℕ) (terms : MatchTerms) → IsLegal limits history → proposal (snapshot history market now) ≡ Some terms
         → little_by (placed history) (Match terms.taker terms.fill terms.makers) ≡ None }
+{}
+
+/// A turn of a crossing over a legal history is refused for want of room alone. What is proposed may be unpaid for besides, and
+/// what is done in its place then, a lapse or the match with its first makers alone, is refused for nothing else either.
+pub fn turns_stop_for_room()
+    ensures { (limits : Bounds) (history : List Act) (market now : ℕ) (refusal : Refusal) → IsLegal limits history → turn limits history market now ≡ Some (Err refusal) → IsForRoom refusal }
 {}
 
 /// The number of the public constant.
