@@ -1,5 +1,6 @@
 mod Answered
 mod Crossings
+mod Ends
 mod Listings
 mod OpenOrders
 mod Ranges

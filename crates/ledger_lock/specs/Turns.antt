@@ -1,11 +1,14 @@
 -- What a turn of a crossing comes to. This project's own.
-use Rattle.std.specs.Prelude.{◌≡◌, ℕ, ◌<◌, ◌^◌, All, List, [], ◌∷◌, ◌++◌, Option, Some, None, Result, Ok, Err}
+use Rattle.std.specs.Prelude.{◌≡◌, ℕ, ◌<◌, ◌^◌, ⊤, All, Contains, List, [], ◌∷◌, ◌++◌, Option, Some, None, Result, Ok, Err}
 use Rattle.book_propose.specs.declared.terms.MatchTerms.{MatchTerms}
 use Rattle.command_words.specs.declared.act.Act.{Act}
 use Rattle.command_words.specs.declared.command.Command.{Command}
 use Rattle.command_words.specs.declared.refusal.Refusal.{Refusal}
 use Rattle.command_words.specs.declared.refusal.Refusal.TheVariants.{Memory}
+use Rattle.command_words.specs.declared.reply.Reply.{Reply}
+use Rattle.command_words.specs.declared.reply.Reply.TheVariants.{Crossed}
 use Rattle.condition_sets.specs.declared.names.TheConstants.{OPERATOR}
+use Rattle.settle_core.specs.Crossings.{IsForRoom}
 use Rattle.ledger_lock.specs.declared.turned.Turned.{Turned}
 use Rattle.ledger_lock.specs.declared.turned.Turned.TheVariants.{Acted, Over, Stopped}
 
@@ -20,6 +23,18 @@ TurnedBy given now history Acted after = (command : Command) × (given ≡ Some 
 TurnedBy given now history Over after = (given ≡ None) × (after ≡ history)
 TurnedBy given now history (Stopped Memory) after = after ≡ history
 TurnedBy given now history (Stopped refusal) after = (given ≡ Some (Err refusal)) × (after ≡ history)
+
+-- a turn is stopped for want of room or of memory alone
+abbrev pub StopsForRoom : Turned → Type 0
+StopsForRoom (Stopped Memory) = ⊤
+StopsForRoom (Stopped refusal) = IsForRoom refusal
+StopsForRoom turned = ⊤
+
+-- and so is a crossing: what it tells of its end is that nothing stopped it, or the number of a supply's limit, of that of
+-- balances, of a full history, or of want of memory
+abbrev pub EndsForRoom : Reply → Type 0
+EndsForRoom (Crossed acts lsn more stop) = Contains (0 ∷ 33 ∷ 34 ∷ 35 ∷ 37 ∷ []) stop
+EndsForRoom reply = ⊤
 
 -- the orders that are matched have numbers of 32 bits
 pub record AreNumbers (terms : MatchTerms) : Type 0 where

@@ -10,7 +10,7 @@ ghost use Rattle.settle_core.specs.Exchange.{asked};
 ghost use Rattle.settle_core.specs.Reply.{Answered};
 ghost use Rattle.settle_core.specs.Snapshots.{snapshot};
 ghost use Rattle.settle_core.specs.Verdict.{verdict};
-ghost use Rattle.ledger_lock.specs.Turns.{AreNumbers, TurnedBy};
+ghost use Rattle.ledger_lock.specs.Turns.{AreNumbers, EndsForRoom, StopsForRoom, TurnedBy};
 
 use crate::house::House;
 use crate::turn_commands::{in_its_place, match_of};
@@ -19,7 +19,7 @@ use book_propose::{MatchTerms, propose};
 use command_words::{Refusal, Reply};
 use condition_sets::{AccountId, ConditionId, NoMemory, OPERATOR};
 use settle_core::MAX_TURNS;
-use settle_core::laws::proposal_fits;
+use settle_core::laws::{proposal_fits, turns_stop_for_room};
 
 impl House {
     /// Takes the turns of a crossing that isn't refused: as many as make acts, and at most [`MAX_TURNS`].
@@ -29,6 +29,7 @@ impl House {
         ensures answered { Answered (asked self.old account (Cross market) now) result self.new.history }
         ensures limits { self.new.limits ≡ self.old.limits }
         ensures sound { IsSound result }
+        ensures stop { EndsForRoom result }
     {
         let lsn = self.exchange.history().len() as u64;
         for turns in 0..MAX_TURNS {
@@ -50,7 +51,11 @@ impl House {
     fn turn(&mut self, market: ConditionId, now: u64) -> Turned
         ensures turned { TurnedBy (turn self.old.limits self.old.history market now) now self.old.history result self.new.history }
         ensures limits { self.new.limits ≡ self.old.limits }
+        ensures room { StopsForRoom result }
     {
+        // Read for what holds of them: the acts are a legal history.
+        let _acts = self.exchange.history();
+        turns_stop_for_room();
         match self.proposal(market, now) {
             Ok(Some(terms)) => self.carry_out(&terms, now),
             Ok(None) => Turned::Over,

@@ -7,6 +7,7 @@ ghost use Rattle.settle_core.specs.Legal.{IsPlannable};
 ghost use Rattle.settle_core.specs.Reply.{accepted_reply, act_of, Answered, refused_reply};
 ghost use Rattle.settle_core.specs.Snapshots.{snapshot};
 ghost use Rattle.settle_core.specs.Verdict.{verdict, AnsweredBy};
+ghost use Rattle.ledger_lock.specs.Turns.{EndsForRoom};
 
 use crate::books::{books_of, follow, make_room_for, offers_of};
 use book_shelves::{Book, Snapshot};
@@ -64,6 +65,7 @@ impl House {
         ensures answered { Answered (asked self.old account command.now now) result self.new.history }
         ensures limits { self.new.limits ≡ self.old.limits }
         ensures sound { IsSound result }
+        ensures stop { EndsForRoom result }
     {
         match command {
             Command::Cross { market } => self.answer_crossing(account, *market, now),
@@ -81,6 +83,7 @@ impl House {
         ensures answered { Answered (asked self.old account command.now now) result self.new.history }
         ensures limits { self.new.limits ≡ self.old.limits }
         ensures sound { IsSound result }
+        ensures stop { EndsForRoom result }
     {
         match self.act(account, command, now) {
             Ok(reply) => reply,
@@ -95,6 +98,7 @@ impl House {
 
         ensures answered { (now : ℕ) → Answered (asked self.now account command.now now) result self.now.history }
         ensures sound { IsSound result }
+        ensures stop { EndsForRoom result }
     {
         match self.exchange.read(account, command) {
             Ok(reply) => reply,
@@ -107,6 +111,7 @@ impl House {
         ensures answered { Answered (asked self.old account (Cross market) now) result self.new.history }
         ensures limits { self.new.limits ≡ self.old.limits }
         ensures sound { IsSound result }
+        ensures stop { EndsForRoom result }
     {
         match self.exchange.refusal_of_cross(account, market) {
             Some(refusal) => refused(&self.exchange, refusal),
@@ -150,6 +155,7 @@ impl House {
 fn refused(exchange: &Exchange, refusal: Refusal) -> Reply
     ensures value { result ≡ refused_reply refusal (length exchange.now.history) }
     ensures sound { IsSound result }
+    ensures stop { EndsForRoom result }
 {
     let rests = match refusal {
         Refusal::Memory => 0,

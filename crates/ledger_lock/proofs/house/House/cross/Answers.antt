@@ -1,12 +1,13 @@
-use Rattle.std.proofs.Common.{◌≡◌, ℕ, false, length, refl, ◌∙◌, ap, subst}
+use Rattle.std.proofs.Common.{◌≡◌, ℕ, false, length, refl, sym, ◌∙◌, ap, subst}
 use Rattle.command_words.specs.declared.command.Command.TheVariants.{Cross}
 use Rattle.command_words.specs.declared.reply.Reply.TheVariants.{Crossed}
 use Rattle.settle_core.specs.Bounds.{Bounds}
 use Rattle.settle_core.specs.Crossings.{turn}
 use Rattle.settle_core.specs.Exchange.{ExchangeView, asked}
-use Rattle.ledger_lock.specs.Turns.{TurnedBy}
+use Rattle.ledger_lock.specs.Turns.{EndsForRoom, TurnedBy}
 use Rattle.ledger_lock.specs.declared.turned.Turned.TheVariants.{Acted, Over, Stopped}
 use Rattle.ledger_lock.proofs.Crossings.{amid-more, amid-start, over-answered, stopped-answered}
+use Rattle.ledger_lock.proofs.Ends.{by-code}
 use Rattle.ledger_lock.proofs.house.House.cross.Goals as goal
 
 pub loop-turns-init : goal.loop-turns-init
@@ -44,3 +45,7 @@ loop-turns-preserved c =
       amid = amid-more c.args.self.now.limits c.args.market c.args.now c.loop-turns.turns c.args.self.now.history now.history after c.loop-turns.invariant.amid turned;
       limits = c.turn.ensures.limits ∙ c.loop-turns.invariant.limits;
     }
+
+pub returns-in-Stopped-clause-stop : goal.returns-in-Stopped-clause-stop
+returns-in-Stopped-clause-stop c =
+    subst EndsForRoom (sym (c.crossed-in-Stopped.ensures ∙ ap (λ (n : ℕ). Crossed c.loop-turns.turns (length c.history.result.now) false n) c.code.ensures)) (by-code c.in-Stopped.refusal c.in-Stopped.ensures.room)
