@@ -124,6 +124,7 @@ ran-served drive is_drive disk middle first ended before after s goes holds back
   more = s.ran.more;
   recovered = holds;
   talk = subst (λ (h : List Act). IsTalk standard h s.ran.turns s.ran.history) s.from_first s.ran.talk;
+  stops = s.ran.stops;
   legal = s.ran.legal;
   read = s.ran.read;
   moments = s.ran.moments;

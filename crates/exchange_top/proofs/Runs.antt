@@ -20,6 +20,7 @@ use Rattle.journal_disk.specs.Steps.{GoesOn}
 use Rattle.journal_store.specs.Journal.{JournalView}
 use Rattle.settle_core.specs.Bounds.{Bounds, standard}
 use Rattle.settle_core.specs.Legal.{IsLegal}
+use Rattle.ledger_lock.specs.Turns.{EndsForRoom}
 use Rattle.exchange_top.proofs.Payments.{AllAreLegal, all-fair, all-pay, answered-legal, fronts-legal}
 use Rattle.exchange_top.proofs.Turns.{IsSmallStep, line-step}
 use Rattle.exchange_top.proofs.Stores.{Storing, goes_on-trans, held-first, stored-holds, whole-answered, lost-answered, front-longer, front-take, storing-init, storing-since}
@@ -43,6 +44,7 @@ pub record Serving (first : List Act) (lines : ℕ) (history : List Act) (reader
   pub counted : length turns ≡ lines
   pub talk : IsTalk standard first turns history
   pub rests : All (λ turn. rests_of turn.reply ≤ length history) turns
+  pub stops : All (λ turn. EndsForRoom turn.reply) turns
   pub read : IfTold before.left now.left (λ input rest. heard_lines input ≡ lines_of turns ++ heard_lines (reader.pending ++ rest))
   pub taken : IfTold before.left now.left (HasTaken turns reader)
   pub moments : (earlier : List ℕ) → before.told earlier → now.told (earlier ++ moments_of turns)
@@ -55,6 +57,7 @@ serving-start first limit text before = record {
   counted = refl;
   talk = refl;
   rests = All-nil _;
+  stops = All-nil _;
   read = IfTold-same before.left _ (λ input. refl);
   taken = IfTold-same before.left _ (λ input. record { told = []; split = refl; no_fewer = omega arith; counted = omega arith });
   moments = λ earlier was. subst before.told (sym (append-nil earlier)) was;
@@ -79,6 +82,10 @@ pub rests-more : (history after : List Act) (turns : List Turn) (turn : Turn) �
 rests-more history after turns turn so_far small =
     let wider : (t : Turn) → rests_of t.reply ≤ length history → rests_of t.reply ≤ length after = λ t few. omega (arith, few, front-longer history after small.step) in
     All-push (λ t. rests_of t.reply ≤ length after) turns turn (All-weaker (λ t. rests_of t.reply ≤ length history) (λ t. rests_of t.reply ≤ length after) wider turns so_far) small.rests
+
+-- and none of it was stopped but for room
+stops-more : (turns : List Turn) (turn : Turn) → All (λ t. EndsForRoom t.reply) turns → EndsForRoom turn.reply → All (λ t. EndsForRoom t.reply) (turns ++ turn ∷ [])
+stops-more turns turn so_far one = All-push (λ t. EndsForRoom t.reply) turns turn so_far one
 
 -- the texts with one more
 texts-more : (turns : List Turn) (turn : Turn) → texts (turns ++ turn ∷ []) ≡ texts turns ++ text_of turn.reply
@@ -139,6 +146,7 @@ pub record IsTurn (history after : List Act) (turn : Turn) (reader reader' : Lin
   pub took : IfTold now.left next.left (Takes reader.taken reader'.taken)
   pub tick : (moments : List ℕ) → now.told moments → next.told (moments ++ turn.moment ∷ [])
   pub answered : AnsweredLine standard history turn.line turn.moment turn.reply after
+  pub stopped : EndsForRoom turn.reply
 
 -- both hold where anything is told
 both-told : (a b : Option (List ℕ)) (P Q : List ℕ → List ℕ → Type 0) → IfTold a b P → IfTold a b Q → IfTold a b (λ x y. P x y × Q x y)
@@ -155,6 +163,7 @@ serving-step first lines history after turn reader reader' before now next s is 
   counted = omega (arith, s.counted, length-append s.turns (turn ∷ []));
   talk = IsTalk-more standard first history after s.turns turn s.talk is.answered;
   rests = rests-more history after s.turns turn s.rests (line-step standard history after turn.line turn.moment turn.reply is.answered);
+  stops = stops-more s.turns turn s.stops is.stopped;
   read = IfTold-trans before.left now.left next.left _ _ _ (λ input rest rest' so_far line. heard_more input reader.pending rest reader'.pending rest' s.turns turn so_far line) s.read is.line;
   taken = IfTold-trans before.left now.left next.left _ _ _ (λ input rest rest' so_far more. taken_more s.turns turn reader reader' input rest rest' so_far more.0 more.1) s.taken (both-told now.left next.left _ _ is.line is.took);
   moments = told_more before.told now.told next.told s.turns turn s.moments is.tick;
@@ -250,13 +259,13 @@ since-began drive is_drive disk first status turns lines history last over hones
 -- the run, put together
 served : {D : Type 0} (drive : D → Drive) (is_drive : (d : D) → IsDrive (drive d)) (disk : D) (first : List Act) (status : Status) (turns : List Turn) (lines more : ℕ) (history : List Act) (last : D) (before next : Outside)
     → Over drive disk first status turns lines history last
-    → IsTalk standard first turns history → IsLegal standard history
+    → IsTalk standard first turns history → All (λ turn. EndsForRoom turn.reply) turns → IsLegal standard history
     → IfTold before.left next.left (IsRead status (lines_of turns))
     → ((earlier : List ℕ) → before.told earlier → next.told (earlier ++ moments_of turns))
     → IfTold before.held next.held (λ old new. new ≡ old ++ written lines more turns)
     → IsWritten status lines more turns
     → Served drive disk first (record { status = status; lines = lines; acts = length history; disk = last }) before next
-served drive is_drive disk first status turns lines more history last before next over talk legal read moments texts counted = record {
+served drive is_drive disk first status turns lines more history last before next over talk stops legal read moments texts counted = record {
   ran = record {
     first = first;
     turns = turns;
@@ -264,6 +273,7 @@ served drive is_drive disk first status turns lines more history last before nex
     more = more;
     recovered = over.recovered;
     talk = talk;
+    stops = stops;
     legal = legal;
     read = read;
     moments = moments;
@@ -315,7 +325,7 @@ pub serving-end : {D : Type 0} (drive : D → Drive) (is_drive : (d : D) → IsD
     → Served drive disk first (record { status = status; lines = lines; acts = length history; disk = journal.disk }) before (record now { left = left_next })
 serving-end drive is_drive disk first status lines history reader journal before now left_next s storing recovered legal read whole =
     served drive is_drive disk first status s.turns lines 0 history journal.disk before (record now { left = left_next })
-    (over-whole drive disk first history status s.turns lines journal storing recovered s.rests) s.talk legal read s.moments
+    (over-whole drive disk first history status s.turns lines journal storing recovered s.rests) s.talk s.stops legal read s.moments
     (IfTold-weaker before.held now.held _ _ (λ a b h. h ∙ ap (λ (bytes : List ℕ). a ++ bytes) (sym (written-whole lines s.turns s.counted))) s.texts)
     (whole s.counted)
 
@@ -348,7 +358,7 @@ pub serving-cut : {D : Type 0} (drive : D → Drive) (is_drive : (d : D) → IsD
 serving-cut drive is_drive disk first lines history after turn reader reader' journal before now next s storing recovered legal is front =
     served drive is_drive disk first WriteFault (s.turns ++ turn ∷ []) lines front.0 after journal.disk before next
     (over-whole drive disk first after WriteFault (s.turns ++ turn ∷ []) lines journal storing recovered (rests-more history after s.turns turn s.rests (line-step standard history after turn.line turn.moment turn.reply is.answered)))
-    (IsTalk-more standard first history after s.turns turn s.talk is.answered) legal
+    (IsTalk-more standard first history after s.turns turn s.talk is.answered) (stops-more s.turns turn s.stops is.stopped) legal
     (read-last first lines history after turn reader reader' before now next s is)
     (told_more before.told now.told next.told s.turns turn s.moments is.tick)
     (IfTold-weaker before.held next.held _ _ (λ a b h. h ∙ ap (λ (bytes : List ℕ). a ++ bytes) (sym (written-cut lines front.0 s.turns turn s.counted)))
@@ -379,7 +389,7 @@ serving-lost drive is_drive disk first lines history after turn reader reader' j
       longer = omega (arith, storing.longer, front-longer history after small.step);
       goes_on = goes_on-trans (drive disk) (drive journal.disk) (drive later.disk) storing.goes_on goes;
     })
-    (IsTalk-more standard first history after s.turns turn s.talk is.answered) legal
+    (IsTalk-more standard first history after s.turns turn s.talk is.answered) (stops-more s.turns turn s.stops is.stopped) legal
     (read-last first lines history after turn reader reader' before now next s is)
     (told_more before.told now.told next.told s.turns turn s.moments is.tick)
     (subst (λ (held : Option (List ℕ)). IfTold before.held held (λ old new. new ≡ old ++ written lines 0 (s.turns ++ turn ∷ []))) (sym same)

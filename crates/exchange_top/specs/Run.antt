@@ -14,6 +14,7 @@ use Rattle.settle_core.specs.Bounds.{standard}
 use Rattle.settle_core.specs.Coverage.{CanPay}
 use Rattle.settle_core.specs.Fairness.{IsFair}
 use Rattle.settle_core.specs.Legal.{IsLegal}
+use Rattle.ledger_lock.specs.Turns.{EndsForRoom}
 use Rattle.exchange_top.specs.declared.ended.Ended.{Ended}
 use Rattle.exchange_top.specs.EndText.{end_text}
 use Rattle.exchange_top.specs.Holds.{Holds, HoldsFront}
@@ -105,6 +106,8 @@ pub record Ran {D : Type 0} (drive : D → Drive) (disk : D) (ended : Ended D) (
   pub recovered : Honestly (drive disk) (Holds (drive disk).bytes first)
   -- each line was answered by the rules, over the history that the lines before it left
   pub talk : IsTalk standard first turns history
+  -- and a crossing was stopped for want of room or of memory alone
+  pub stops : All (λ turn. EndsForRoom turn.reply) turns
   pub legal : IsLegal standard history
   -- the lines are those of the input
   pub read : IfTold before.left after.left (IsRead ended.status (lines_of turns))

@@ -4,6 +4,7 @@ ghost use Rattle.std.specs.Prelude.{◌≡◌};
 ghost use Rattle.line_link.specs.LineReader.{heard};
 ghost use Rattle.line_link.specs.Lines.{kept};
 ghost use Rattle.command_words.specs.Reply.{IsSound};
+ghost use Rattle.ledger_lock.specs.Turns.{EndsForRoom};
 ghost use Rattle.exchange_top.specs.Holds.{IsFront};
 ghost use Rattle.exchange_top.specs.Talk.{AnsweredLine};
 
@@ -24,6 +25,7 @@ pub(crate) fn answer_line(
     ensures answered { AnsweredLine house.old.limits house.old.history (heard line text.now) now result house.new.history }
     ensures front { IsFront house.old.history house.new.history }
     ensures sound { IsSound result }
+    ensures stop { EndsForRoom result }
     ensures limits { house.new.limits ≡ house.old.limits }
 {
     match line {
@@ -38,6 +40,7 @@ pub(crate) fn answer_line(
 fn answer_text(alloc: Global, house: &mut House, text: &[u8], now: u64) -> Reply
     ensures answered { AnsweredLine house.old.limits house.old.history (kept text.now) now result house.new.history }
     ensures sound { IsSound result }
+    ensures stop { EndsForRoom result }
     ensures limits { house.new.limits ≡ house.old.limits }
 {
     match read_line(alloc, text) {

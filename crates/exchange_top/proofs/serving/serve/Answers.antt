@@ -97,6 +97,7 @@ returns-in-Err-clause-served g c =
       took = c.in-Ok.ensures.taken;
       tick = c.now-now.ensures;
       answered = line-answered _ _ history after turn turn_of _ _ c.lines.invariant.limits c.text.ensures refl c.answer_line-reply.ensures.answered;
+      stopped = c.answer_line-reply.ensures.stop;
     } in
     let legal = subst (λ (limits : Bounds). IsLegal limits after) (c.answer_line-reply.ensures.limits ∙ c.lines.invariant.limits) c.end-in-Err.ensures.legal in
     subst (λ (e : Ended g.row.D.Denot). Served g.D.Disk.drive c.args.journal.disk first e before next) (sym c.end-in-Err.ensures.value)
@@ -123,6 +124,7 @@ lines-preserved g c =
       took = c.in-Ok.ensures.taken;
       tick = c.now-now.ensures;
       answered = line-answered _ _ history after turn turn_of _ _ c.lines.invariant.limits c.text.ensures refl c.answer_line-reply.ensures.answered;
+      stopped = c.answer_line-reply.ensures.stop;
     } in
     let written = subst (λ (text : List ℕ). Appends (held c.lines.sink) (held c.write_all.new.sink) text) (c.as_slice.ensures ∙ c.spell.ensures) c.in-Ok-write_all.ensures.ok in
     record {
@@ -158,6 +160,7 @@ returns-in-Err-write_all-clause-served g c =
       took = c.in-Ok.ensures.taken;
       tick = c.now-now.ensures;
       answered = line-answered _ _ history after turn turn_of _ _ c.lines.invariant.limits c.text.ensures refl c.answer_line-reply.ensures.answered;
+      stopped = c.answer_line-reply.ensures.stop;
     } in
     let legal = subst (λ (limits : Bounds). IsLegal limits after) (c.answer_line-reply.ensures.limits ∙ c.lines.invariant.limits) c.end-in-Err-write_all.ensures.legal in
     let front = subst (λ (text : List ℕ). AppendsFront (held c.lines.sink) (held c.write_all.new.sink) text) (c.as_slice.ensures ∙ c.spell.ensures) c.in-Err-write_all.ensures.err in
