@@ -58,7 +58,7 @@ impl House {
 
     /// Answers a command of an account at a moment: a reading by what the history gives, and any other by the act, or by the acts
     /// of a crossing, that the history goes on by. A refusal changes nothing; nor does want of memory, but that earlier turns
-    /// of a crossing stand.
+    /// of a crossing stand. What stops a crossing is a limit of supplies, balances or acts, or want of memory, and nothing else.
     pub fn answer(&mut self, account: AccountId, command: &Command, now: u64) -> Reply
         requires { in_ranges command.now ≡ true }
 
